@@ -49,16 +49,16 @@ _mp4norm() {
     esac
     case $command in
     '') words='normalise show samples extract boxes strip compare check sum print help --help --version' ;;
-    normalise | normalize) words='--out --without --foreign --lossy --max-bytes --max-parts --replace --progress --explain --brief --help' ;;
+    normalise | normalize) words='--out --track --without --foreign --lossy --max-bytes --max-parts --replace --progress --explain --brief --help' ;;
     show) words='--max-parts --explain --brief --help' ;;
     samples) words='--track --header --json --max-parts --explain --brief --help' ;;
     extract) words='--track --out --max-bytes --max-parts --replace --progress --explain --brief --help' ;;
     boxes) words='--json --fields --rows --max-parts --explain --brief --help' ;;
     strip) words='--foreign --lossy --drop --out --max-bytes --max-parts --replace --progress --explain --brief --help' ;;
-    compare) words='--without --foreign --lossy --all --align --limit --json --max-parts --explain --brief --help' ;;
+    compare) words='--track --without --foreign --lossy --all --align --limit --json --max-parts --explain --brief --help' ;;
     check) words='--names-from --zero --foreign --lossy --json --max-parts --explain --brief --help' ;;
-    sum) words='--names-from --without --foreign --lossy --zero --json --no-header --bytes --check --quiet --summary --new --max-parts --explain --brief --help' ;;
-    print) words='--without --foreign --lossy --out --replace --max-parts --explain --brief --help' ;;
+    sum) words='--names-from --track --without --foreign --lossy --zero --json --no-header --bytes --check --quiet --summary --new --max-parts --explain --brief --help' ;;
+    print) words='--track --without --foreign --lossy --out --replace --max-parts --explain --brief --help' ;;
     help) words='normalise show samples extract boxes strip compare check sum print' ;;
     esac
     # Behind a command that reads a file, words without a dash are files: bash completes them by itself.

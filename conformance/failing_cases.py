@@ -145,6 +145,10 @@ def of_one_file() -> Iterator:
              answers.form(WAITING, ['lead-ins']))
     yield of('too long', f'normalise {LEAD_INS}', TOO_LONG, None, status=1,
              said=answers.movie(TOO_LONG, ['lead-ins']).refusal().encode() + b'\n')
+    yield of('a track', 'normalise --track 2', WAITING, answers.form(answers.Alone(WAITING, 2)))
+    yield of('a track', 'normalise --track 2 --without media-2 --max-bytes 9999 --explain', WAITING,
+             answers.form(answers.Alone(WAITING, 2), ['media-2']))
+    yield of('no track', 'normalise --track 7', WAITING, b'', status=4, said=b'failed: no such track\n')
     yield of('plain', 'normalise --progress', PLAIN, NORMAL)
     yield of('plain', f'normalise --max-bytes {len(NORMAL)}', PLAIN, NORMAL)
     yield of('plain', 'extract --track 1 --out - --max-bytes 11 --explain', PLAIN, b'', status=3,
@@ -183,6 +187,8 @@ def of_two_files() -> Iterator:
     yield case('others', compare, both, 5, put=DIFFERENCE)
     yield case('without', f'{compare} --without times,groups', both, 5, put=DIFFERENCE)
     yield case('later as a whole', f'{compare} {LEAD_INS}', {'a.mp4': WAITING, 'b.mp4': LATER})
+    yield case('a track of each', f'{compare} --track 2:2', {'a.mp4': WAITING, 'b.mp4': LATER}, 5,
+               put=b'track 1: start 24000 | 24048\n')
     yield case('all', f'{compare} --all', both, 5, put=DIFFERENCE + last)
     yield case('all as JSON', f'{compare} --all --json --explain', both, 5, put=parsed)
     lies = b'track 1: sample 3 of A (0.080 s) | sample 3 of B (0.080 s)\n'
@@ -221,6 +227,11 @@ def of_sums_and_texts() -> Iterator:
     header, text = b'# mp4norm sum: normal form 1, without nothing\n', answers.text(PLAIN)
     yield of('one', 'sum', PLAIN, header + due)
     yield of('one, explained', 'sum --no-header --explain', PLAIN, due)
+    alone = answers.Alone(WAITING, 2)
+    line = b'# mp4norm sum: normal form 1 of track 2, without nothing\n'
+    digits = hashlib.sha256(answers.form(alone)).hexdigest().encode()
+    yield of('a track', 'sum --track 2', WAITING, line + digits + b'  in.mp4\n')
+    yield of('a track', 'print --track 2', WAITING, answers.text(alone))
     yield of('plain', 'print', PLAIN, text)
     yield of('without, explained', 'print --without times --explain', PLAIN,
              answers.text(PLAIN, ['times']))

@@ -14,9 +14,9 @@ else the one that was installed with it; else the one on the path. docs/PYTHON.m
 answers this module rests on.
 
 Where there is the C library, files are looked at in this process, and the program is run only for
-what the library doesn't have: a new file, `foreign`, and files that aren't read into memory. It is the one
-that MP4NORM_LIBRARY names, and none where that is empty; else, unless MP4NORM is set, the one
-beside this module, or installed with it.
+what the library doesn't have: a new file, `foreign`, a track alone, and files that aren't read into
+memory. It is the one that MP4NORM_LIBRARY names, and none where that is empty; else, unless MP4NORM
+is set, the one beside this module, or installed with it.
 
 In a clone of the repository both are those of its dist/.
 """
@@ -339,17 +339,19 @@ def boxes(file: File, rows: Optional[int] = None) -> List[Box]:
 
 
 def compare(a: File, b: File, without: Words = (), limit: int = 100, foreign: bool = False,
-            lossy: bool = False, align: bool = False) -> Comparison:
+            lossy: bool = False, align: bool = False,
+            tracks: Optional[Tuple[int, int]] = None) -> Comparison:
     """Compares what the two say, but for what these words leave out (docs/COMPARING.md has them),
     and lists at most `limit` of the differences. With `foreign` boxes that the profile refuses are
     read as free space; where something is lost with one, only with `lossy`. With `align` it says
     too how tracks lie beside each other whose samples are not the same, and lists and counts
-    samples only of tracks that have the same number of them in both."""
-    left, freed = _without(without), _foreign(foreign, lossy)
-    text = None if freed else _compared(a, b, _flags(left), limit, align)
+    samples only of tracks that have the same number of them in both. With `tracks` a track of each
+    is compared, by its ID, as if its file had no other; both are track 1 in what is said then."""
+    left, freed, alone = _without(without), _foreign(foreign, lossy), _alone(tracks)
+    text = None if freed or alone else _compared(a, b, _flags(left), limit, align)
     if text is None:
         listed = "--align" if align else "--all"
-        words = ["compare", "--json", listed, "--limit", str(limit), *left, *freed]
+        words = ["compare", "--json", listed, "--limit", str(limit), *left, *freed, *alone]
         text = _run(words, [a, b], (0, DIFFERENT))
     *told, last = _objects(text)
     differences = [_made(Difference, {**it, "at": tuple(it["at"])}) for it in told
@@ -365,17 +367,19 @@ def _aligned(told: Dict[str, Any]) -> Alignment:
 
 
 def normalise(file: File, new: Optional[Name] = None, without: Words = (), replace: bool = False,
-              foreign: bool = False, lossy: bool = False) -> bytes:
+              foreign: bool = False, lossy: bool = False, track: Optional[int] = None) -> bytes:
     """The normal form. With `new` it goes to a file of that name, which must not be there unless
     it is to be replaced; then no bytes are returned. With `foreign` boxes that the profile refuses
-    are read as free space; where something is lost with one, only with `lossy`."""
-    left, freed = _without(without), _foreign(foreign, lossy)
+    are read as free space; where something is lost with one, only with `lossy`. With `track` it is
+    that of the track with this ID, as if the file had no other."""
+    left, freed, alone = _without(without), _foreign(foreign, lossy), _alone(track)
     flags = _flags(left)
-    if new is None and not replace and not freed and flags is not None:
+    if new is None and not (replace or freed or alone) and flags is not None:
         found = _text("normal", file, flags)
         if found is not None:
             return found
-    words = ["normalise", "--out", "-" if new is None else _word(new), *left, *freed]
+    words = ["normalise", "--out", "-" if new is None else _word(new), *left, *freed,
+             *alone]
     return _run(words + ["--replace"] * replace, [file], new=new)
 
 
@@ -389,12 +393,14 @@ def check(*files: Name, foreign: bool = False,
 
 
 def sum(*files: Name, without: Words = (), foreign: bool = False,
-        lossy: bool = False) -> Dict[str, Union[str, Error]]:
+        lossy: bool = False, track: Optional[int] = None) -> Dict[str, Union[str, Error]]:
     """For the name of each file: the SHA-256 of its normal form, of what is left of it, in
     hexadecimal digits; or what `normalise` would raise. Files with the same content have the same
-    sum. There may be any number of files."""
-    left, freed = _without(without), _foreign(foreign, lossy)
-    told = _told(["sum", *left, *freed], files, None if freed else _flags(left))
+    sum. There may be any number of files. With `track` it is that of the track with this ID, as if
+    each file had no other."""
+    left, freed, alone = _without(without), _foreign(foreign, lossy), _alone(track)
+    told = _told(["sum", *left, *freed, *alone], files,
+                 None if freed or alone else _flags(left))
     return {name: _verdict(name, one) or one["sha256"] for name, one in told}
 
 
@@ -613,6 +619,16 @@ def _foreign(foreign: bool, lossy: bool) -> List[str]:
     if lossy and not foreign:
         raise ValueError("lossy is of use only with foreign")
     return ["--foreign"] * foreign + ["--lossy"] * lossy
+
+
+def _alone(track: Union[int, Tuple[int, int], None]) -> List[str]:
+    """A track that is looked at alone, or one of each of two files."""
+    if track is None:
+        return []
+    if isinstance(track, int):
+        return ["--track", str(track)]
+    first, second = track
+    return ["--track", f"{first}:{second}"]
 
 
 def _name(file: File) -> str:

@@ -16,6 +16,7 @@ import dataclasses
 import errno
 import hashlib
 import io
+import itertools
 import json
 import os
 import pathlib
@@ -37,7 +38,7 @@ sys.path[:0] = [HERE, os.path.join(os.path.dirname(HERE), 'conformance')]
 import mp4norm
 import trials
 from mp4norm import Alignment, Between, Box, Failed, Movie, Refused, Sample, Track
-from suite import answers, built, differ, lister, reader
+from suite import answers, built, differ, lister, movies, reader
 from suite.stored import CUT, EDITS, NORMAL, OTHER, PLAIN, bytes_of
 
 COUNTS = collections.Counter()
@@ -337,6 +338,53 @@ class Answers(Case):
                          {'more.mp4': digits, 'event.mp4': digits})
         for call in (mp4norm.normalise, mp4norm.check, mp4norm.sum):
             self.assertRaises(ValueError, call, 'plain.mp4', lossy=True)
+
+    def test_track(self):
+        """One track of a file, as if it had no other; the library doesn't look at one alone."""
+        data = movies.whole(True).spelled()
+        self.named('wide.mp4', data)
+        for track, words in itertools.product((1, 2), ((), ('packaging-2',))):
+            alone = answers.Alone(data, track)
+            form = answers.form(alone, words)
+            for file in (data, 'wide.mp4'):
+                self.assertEqual(mp4norm.normalise(file, track=track, without=words), form)
+                self.assertEqual([it.id for it in mp4norm.show(form).tracks],
+                                 [1 if words else track])
+            found = mp4norm.sum('wide.mp4', 'plain.mp4', track=track, without=words)
+            self.assertEqual(found['wide.mp4'], hashlib.sha256(form).hexdigest())
+            mp4norm.normalise('wide.mp4', 'new.mp4', replace=True, track=track, without=words)
+            self.assertEqual(self.read('new.mp4'), form)
+            tracks = track, 1 if words else track
+            for file in (form, 'new.mp4'):
+                found = mp4norm.compare(data, file, tracks=tracks, without=words)
+                self.assertTrue(found, str(found))
+        self.assertEqual(mp4norm.normalise(data + b'\0\0\0\x0cmorenone', track=2, foreign=True),
+                         answers.form(answers.Alone(data, 2)))
+
+    def test_tracks(self):
+        """A track of each of two files, by IDs; what differs is of track 1, the only one of each."""
+        data = movies.whole(True).spelled()
+        self.named('wide.mp4', data)
+        found = mp4norm.compare('wide.mp4', data, tracks=(1, 2), limit=20)
+        due = differ.differences(*(answers.movie(answers.Alone(data, track)) for track in (1, 2)))
+        self.assertEqual([it.line for it in found.differences], [line for _, line in due[:20]])
+        self.assertEqual((found.total, found.differences[0].at[:2]), (len(due), ('track', 1)))
+        found = mp4norm.compare(data, data, tracks=(2, 1), align=True)
+        self.assertEqual([it.track for it in found.aligned], [1])
+        self.fails('plain.mp4', 'no such track', mp4norm.compare, data, 'plain.mp4', tracks=(1, 2))
+        self.fails('-', 'no such track', mp4norm.compare, data, 'plain.mp4', tracks=(3, 2))
+        self.fails('-', 'no such track', mp4norm.normalise, data, track=3)
+        self.is_told(mp4norm.sum('plain.mp4', track=2)['plain.mp4'], 'plain.mp4', 'no such track')
+        self.refuses(FAULT, mp4norm.normalise, 'cut.mp4', track=7)
+        for call, more in ((mp4norm.normalise, {'track': 0}), (mp4norm.normalise, {'track': 1 << 32}),
+                           (mp4norm.sum, {'track': (1, 2)})):
+            with self.assertRaises(Failed) as caught:
+                call('plain.mp4', **more)
+            self.assertIn("invalid value", caught.exception.what)
+        for tracks in (1, (1, 0)):
+            with self.assertRaises(Failed) as caught:
+                mp4norm.compare(data, 'plain.mp4', tracks=tracks)
+            self.assertIn('compare takes two IDs as A:B', caught.exception.what)
 
     def test_many_files(self):
         names = [f'{"x" * 200}-{number}.mp4' for number in range(20000)]

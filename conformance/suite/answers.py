@@ -2,6 +2,7 @@
 from __future__ import annotations
 
 from collections.abc import Sequence
+from typing import NamedTuple
 from . import lister, normal, objects, printer, reader
 
 # A track that no file of this suite has.
@@ -10,19 +11,27 @@ NO_TRACK = 987654321
 TO_FILES = ('extract', 'normalise')
 
 
-# ---- what commands put of a file that is accepted
+class Alone(NamedTuple):
+    """A file of which the track with this ID is looked at alone."""
+    data: bytes
+    track: int
 
-def movie(data: bytes, words: Sequence = ()):
+
+# ---- what commands put of a file that is accepted, or of a track of it alone
+
+def movie(data: bytes | Alone, words: Sequence = ()):
     """What a file denotes without some words."""
+    if isinstance(data, Alone):
+        return reader.Movie(data.data).alone(data.track).leave_out(words)
     return reader.Movie(data).leave_out(words)
 
 
-def form(data: bytes, words: Sequence = ()) -> bytes:
+def form(data: bytes | Alone, words: Sequence = ()) -> bytes:
     """The normal form of what is left of a file."""
     return normal.normal_form(movie(data, words))
 
 
-def text(data: bytes, words: Sequence = ()) -> bytes:
+def text(data: bytes | Alone, words: Sequence = ()) -> bytes:
     """What `print` puts."""
     return printer.text(movie(data, words))
 
@@ -108,3 +117,8 @@ def of_accepted(data: bytes) -> list[Asked]:
                   done('extract', reader.extracted(found, track), track.id)]
     missing = Answer(4, 'failed: no such track')
     return asked + [Asked('samples', NO_TRACK, missing), Asked('extract', NO_TRACK, missing)]
+
+
+def of_tracks(data: bytes) -> list[Asked]:
+    """The answers of `normalise` with --track, of each track of a file that is accepted."""
+    return [done('normalise', form(Alone(data, track.id)), track.id) for track in movie(data).tracks]

@@ -209,6 +209,17 @@ class Movie:
     def length(self) -> int:
         return max([track.length(self.timescale) for track in self.tracks], default=0)
 
+    def alone(self, number: int) -> Movie:
+        """Shows the track with this ID alone, as if the file had no other; before anything is left
+        out."""
+        if taken('first-track-is-taken'):
+            self.tracks = self.tracks[:1]
+        elif taken('place-is-the-id'):
+            self.tracks = self.tracks[number - 1:number]
+        elif not taken('all-tracks-stay'):
+            self.tracks = [self.track(number)]
+        return self
+
     def leave_out(self, names: Sequence) -> Movie:
         """Leaves out what these words of `--without`, and sets of them, name."""
         if lead_ins.WORD in meant(names):

@@ -17,18 +17,20 @@ use Rattle.mp4_present.specs.words.OpenedMovie.{IsOpenedAs}
 use Rattle.mp4_boxes.specs.format.Bytes.{AreBytes}
 use Rattle.mp4_content.specs.format.LeadIns.{left_of, words_told}
 use Rattle.mp4_answers.specs.words.OpenedTold.{IsOpenedTold, OpensWithinTold}
-use Rattle.mp4_answers.proofs.OpenedTold.{judged_told, left_is, shown_limits, shown_valid}
+use Rattle.mp4_answers.proofs.OpenedTold.{left_is, shown_limits, shown_valid, shows_told}
 use Rattle.mp4_present.specs.words.WalkSteps.{walks_steps}
 use Rattle.mp4_content.specs.declared.comparing.differences.Difference.{Difference}
 use Rattle.mp4_content.specs.declared.without.Word.{Word}
 use Rattle.mp4_content.specs.declared.without.Without.{Without}
 use Rattle.mp4_content.proofs.ComparisonWhole.{no_difference_is_same}
 use Rattle.mp4_present.proofs.DenotedValid.{denoted_is_valid}
-use Rattle.mp4_answers.specs.format.CompareHeadline.{IsVerdict, ComparedWithin, ComparesWithin, aligned_walks, listing_walks, most_counted, most_walks, opened_walks, trying_walks}
+use Rattle.mp4_answers.specs.format.CompareHeadline.{IsVerdict, of_first, of_second, ComparedWithin, ComparesWithin, aligned_walks, listing_walks, most_counted, most_walks, opened_walks, trying_walks}
 use Rattle.mp4_answers.specs.format.Steps.{row_total}
 use Rattle.mp4_answers.specs.words.Compares.{side_of, says_nothing, IsSaid, ListsFront, WalksTimes, RefusesBoth, RefusesCompare}
 use Rattle.mp4_answers.specs.words.TwoFiles.{differ_without}
+use Rattle.mp4_answers.specs.declared.commands.compare.Asked.{Asked}
 use Rattle.mp4_answers.specs.declared.commands.compare.Failure.{Failure}
+use Rattle.mp4_answers.specs.declared.selection.Selection.{Selection}
 use Rattle.mp4_answers.specs.declared.commands.compare.Lines.{Lines}
 use Rattle.mp4_answers.specs.declared.commands.compare.Listing.{Listing}
 use Rattle.mp4_answers.specs.declared.commands.compare.Listing.TheVariants as listings
@@ -141,31 +143,34 @@ unfolding differ_without
 said_of_both file tree file_right other l found said = said
 
 -- what was opened is valid
-pub opened_valid : (l : Without) (file : List ℕ) (m : MovieSeen) (tree : FileTree) → AreBytes file → IsOpenedTold l.lead_ins file m tree → Valid (presentation_of file tree)
-opened_valid l file m tree x o = shown_valid l file m tree o (denoted_is_valid file o.p x o.denotes)
+pub opened_valid : (s : Selection) (file : List ℕ) (m : MovieSeen) (tree : FileTree) → AreBytes file → IsOpenedTold s.track s.leaving.lead_ins file m tree → Valid (presentation_of file tree)
+opened_valid s file m tree x o = shown_valid s file m tree o (denoted_is_valid file o.whole x o.denotes)
 
--- the same remains of what the movies show exactly if the same is left of what the files denote
-pub left_same : (l : Without) (file other : List ℕ) (m n : MovieSeen) (tree next : FileTree) (a : IsOpenedTold l.lead_ins file m tree) (b : IsOpenedTold l.lead_ins other n next)
-    → (remaining (words_told l) (presentation_of file tree) ≡ remaining (words_told l) (presentation_of other next)) ↔ (left_of l a.p ≡ left_of l b.p)
-left_same l file other m n tree next a b =
-    let first = left_is l file m tree a in
-    let second = left_is l other n next b in
+-- the same remains of what the movies show exactly if the same is left of what is looked at of the files
+pub left_same : (asked : Asked) (file other : List ℕ) (m n : MovieSeen) (tree next : FileTree) (a : IsOpenedTold asked.first asked.leaving.lead_ins file m tree) (b : IsOpenedTold asked.second asked.leaving.lead_ins other n next)
+    → (remaining (words_told asked.leaving) (presentation_of file tree) ≡ remaining (words_told asked.leaving) (presentation_of other next)) ↔ (left_of asked.leaving a.p ≡ left_of asked.leaving b.p)
+left_same asked file other m n tree next a b =
+    let first = left_is (of_first asked) file m tree a in
+    let second = left_is (of_second asked) other n next b in
     (λ e. sym first ∙ e ∙ second, λ e. first ∙ e ∙ sym second)
 
-pub verdict : (l : Without) (file other : List ℕ) (m n : MovieSeen) {A : Type 0} (found : Option A) (same : Bool) → same ≡ says_nothing found → (a : (tree : FileTree) × IsOpenedTold l.lead_ins file m tree) → (b : (tree : FileTree) × IsOpenedTold l.lead_ins other n tree)
-    → IsSaid found (differ_without file a.0 other b.0 (words_told l)) → IsVerdict l file other same
-verdict l file other m n found same is a b said = record {
-  p = a.1.p;
-  q = b.1.p;
-  first = judged_told l file m a.0 a.1;
-  second = judged_told l other n b.0 b.1;
-  first_shown = shown_limits l file m a.0 a.1;
-  second_shown = shown_limits l other n b.0 b.1;
-  is = λ x y.
-      let told = verdict_of (words_told l) (presentation_of file a.0) (presentation_of other b.0) found same is (said_of_both file a.0 other b.0 (words_told l) found said) (opened_valid l file m a.0 x a.1) (opened_valid l other n b.0 y b.1) in
-      let left = left_same l file other m n a.0 b.0 a.1 b.1 in
-      (λ e. left.0 (told.0 e), λ e. told.1 (left.1 e));
-}
+pub verdict : (asked : Asked) (file other : List ℕ) (m n : MovieSeen) {A : Type 0} (found : Option A) (same : Bool) → same ≡ says_nothing found → (a : (tree : FileTree) × IsOpenedTold asked.first asked.leaving.lead_ins file m tree)
+    → (b : (tree : FileTree) × IsOpenedTold asked.second asked.leaving.lead_ins other n tree)
+    → IsSaid found (differ_without file a.0 other b.0 (words_told asked.leaving)) → IsVerdict asked file other same
+verdict asked file other m n found same is a b said =
+    let words = words_told asked.leaving in
+    record {
+      p = a.1.p;
+      q = b.1.p;
+      first = shows_told (of_first asked) file m a.0 a.1;
+      second = shows_told (of_second asked) other n b.0 b.1;
+      first_shown = shown_limits (of_first asked) file m a.0 a.1;
+      second_shown = shown_limits (of_second asked) other n b.0 b.1;
+      is = λ x y.
+          let told = verdict_of words (presentation_of file a.0) (presentation_of other b.0) found same is (said_of_both file a.0 other b.0 words found said) (opened_valid (of_first asked) file m a.0 x a.1) (opened_valid (of_second asked) other n b.0 y b.1) in
+          let left = left_same asked file other m n a.0 b.0 a.1 b.1 in
+          (λ e. left.0 (told.0 e), λ e. told.1 (left.1 e));
+    }
 
 -- ---- refusals
 
@@ -211,14 +216,16 @@ walks_alike l (listings.First syntax) = refl
 walks_alike l (listings.All lines) = refl
 
 -- both were opened, and walked over as many times as may be
-pub both_walked : (l : Without) (listing : Listing) (file other : List ℕ) (m n : MovieSeen) (old mid behind new : ℕ) → ((tree : FileTree) × IsOpenedTold l.lead_ins file m tree) → ((tree : FileTree) × IsOpenedTold l.lead_ins other n tree)
-    → OpensWithinTold l.lead_ins file old mid → OpensWithinTold l.lead_ins other mid behind
-    → ((tree next : FileTree) → IsOpenedAs file m tree → IsOpenedAs other n next → WalksTimes (opened_walks (words_told l) listing) tree next behind new) → ComparesWithin l listing file other old new
-both_walked l listing file other m n old mid behind new a b opening next walks =
-    let times = opened_walks l listing in
+pub both_walked : (asked : Asked) (file other : List ℕ) (m n : MovieSeen) (old mid behind new : ℕ) → ((tree : FileTree) × IsOpenedTold asked.first asked.leaving.lead_ins file m tree) → ((tree : FileTree) × IsOpenedTold asked.second asked.leaving.lead_ins other n tree)
+    → OpensWithinTold asked.leaving.lead_ins file old mid → OpensWithinTold asked.leaving.lead_ins other mid behind
+    → ((tree next : FileTree) → IsOpenedAs file m tree → IsOpenedAs other n next → WalksTimes (opened_walks (words_told asked.leaving) asked.listing) tree next behind new) → ComparesWithin asked.leaving asked.listing file other old new
+both_walked asked file other m n old mid behind new a b opening next walks =
+    let l = asked.leaving in
+    let times = opened_walks l asked.listing in
     let ways = times * walks_steps a.0 in
     record {
       between = mid + ways;
-      first = often_walked l.lead_ins times file m a.0 old mid (mid + ways) a.1 opening (omega arith);
-      second = often_walked l.lead_ins times other n b.0 (mid + ways) (behind + ways) new b.1 (steps_later l.lead_ins other mid behind ways next) (let more = subst (λ k. WalksTimes k a.0 b.0 behind new) (walks_alike l listing) (walks a.0 b.0 a.1.opened b.1.opened) in omega (arith, more));
+      first = often_walked asked.first l.lead_ins times file m a.0 old mid (mid + ways) a.1 opening (omega arith);
+      second = often_walked asked.second l.lead_ins times other n b.0 (mid + ways) (behind + ways) new b.1 (steps_later l.lead_ins other mid behind ways next) (let more = subst (λ k. WalksTimes k a.0 b.0 behind new) (walks_alike l asked.listing) (walks a.0 b.0 a.1.opened b.1.opened) in omega
+          (arith, more));
     }

@@ -15,11 +15,12 @@ use Rattle.mp4_content.specs.declared.without.Word.{Word}
 use Rattle.mp4_content.specs.declared.without.Without.{Without}
 use Rattle.mp4_content.proofs.ComparisonWhole.{no_difference_is_same}
 use Rattle.mp4_content.specs.format.CoveringLaws.{Covers}
+use Rattle.mp4_answers.specs.declared.commands.compare.Asked.{Asked}
 use Rattle.mp4_answers.specs.declared.commands.compare.Lines.{Lines}
 use Rattle.mp4_answers.specs.declared.commands.compare.Listing.{Listing}
 use Rattle.mp4_answers.specs.declared.commands.compare.Listing.TheVariants as listings
-use Rattle.mp4_answers.specs.format.CompareHeadline.{AreEnough, AreToldAligned, IsTold, PutsSuch, TellsOf, alignment_in, descriptions_in, difference_in, last_in, listing_text, most_counted}
-use Rattle.mp4_answers.specs.words.Compares.{AreBeside, AreSome, as_asked, IsCounted, IsEnough, IsTried, IsShrunk, IsSameWith, IsFoundOf, IsSaid, IsSaidOf, ListsFront, PutsFound, says_nothing}
+use Rattle.mp4_answers.specs.format.CompareHeadline.{AreEnough, AreToldAligned, IsTold, PutsSuch, TellsOf, of_first, of_second, alignment_in, descriptions_in, difference_in, last_in, listing_text, most_counted}
+use Rattle.mp4_answers.specs.words.Compares.{AreSome, as_asked, IsCounted, IsEnough, IsTried, IsShrunk, IsSameWith, IsFoundOf, IsSaid, IsSaidOf, ListsFront, PutsFound, says_nothing}
 use Rattle.mp4_answers.specs.words.SingleWords.{everything, less_word, single_words}
 use Rattle.mp4_answers.specs.words.TwoFiles.{differ_without}
 use Rattle.mp4_content.specs.words.Compared.{files_differ}
@@ -29,13 +30,13 @@ use Rattle.mp4_content.proofs.LeadInsMore.{same_kept_without_more}
 use Rattle.mp4_content.proofs.LeadInsTold.{kept_is_told, left_is_told}
 use Rattle.mp4_content.proofs.LeadInsTracks.{where_more, where_told}
 use Rattle.mp4_content.proofs.LeadInsUntimed.{kept_without_times}
-use Rattle.mp4_content.specs.format.Alignment.{AreAligned, listed}
+use Rattle.mp4_content.specs.format.Alignment.{listed}
 use Rattle.mp4_content.specs.format.LeadIns.{Moment, delay, first_moments, kept, left_of, says_beginnings, told, told_by, wait_of, words_told}
 use Rattle.mp4_answers.proofs.LeastTimes.{among_others}
 use Rattle.mp4_answers.proofs.WordSets.{covers_all, none_to_take, shrunk}
 use Rattle.mp4_answers.proofs.ComparedFiles.{first_said, opened_valid, true_false}
 use Rattle.mp4_answers.proofs.AskedWords.{among_asked, covers_asked, covers_told, inside_told, lead_same, same_asked, told_as, told_asked}
-use Rattle.mp4_answers.proofs.OpenedTold.{judged_told, shown_limits}
+use Rattle.mp4_answers.proofs.OpenedTold.{shown_limits, shows_told}
 use Rattle.mp4_answers.specs.words.OpenedTold.{IsOpenedTold}
 use Rattle.mp4_boxes.proofs.Plain.{nat_le_no}
 
@@ -206,9 +207,8 @@ module _ (l : Without) (p q r s : Presentation) (v : Valid r) (w : Valid s) (sho
         among_asked l m c k d (among kinds (told_as l m c k d) (covers_told l m c k d) alike.timing alike.timescales (to_told k alike.lead_ins f)) alike.lead_ins,
   )
 
-  aligned_told : (b : Bool) (found : List Alignment) → AreBeside b (words_told l) r s found → AreToldAligned b l p q found
-  aligned_told true found h = subst (λ (y : Presentation). AreAligned (words_told l) 1 (told l.lead_ins p).tracks y.tracks found) other (subst (λ (x : Presentation). AreAligned (words_told l) 1 x.tracks s.tracks found) shown h)
-  aligned_told false found h = h
+  aligned_told : (b : Bool) (found : List Alignment) → AreToldAligned b (words_told l) r s found → AreToldAligned b (words_told l) (told l.lead_ins p) (told l.lead_ins q) found
+  aligned_told b found h = subst (λ (y : Presentation). AreToldAligned b (words_told l) (told l.lead_ins p) y found) other (subst (λ (x : Presentation). AreToldAligned b (words_told l) x s found) shown h)
 
   tells_of : (listing : Listing) (text : List ℕ) → IsSaidOf listing l (words_told l) r s text → TellsOf listing l p q text
   tells_of (listings.First syntax) text h =
@@ -225,19 +225,20 @@ module _ (l : Without) (p q r s : Presentation) (v : Valid r) (w : Valid s) (sho
         told_so ∙ (λ i. listing_text lines found (listed lines.aligned (sym one i) (sym two i)) (option_map (as_asked l) enough)),
       )
 
-pub told_of : {A : Type 0} (bytes : A → List ℕ) (listing : Listing) (l : Without) (file other : List ℕ) (m n : MovieSeen) (found : Option A) (same : Bool) (Took : List ℕ → Type 0) → same ≡ says_nothing found → same ≡ false → PutsFound bytes found Took
-    → (a : (tree : FileTree) × IsOpenedTold l.lead_ins file m tree) → (b : (tree : FileTree) × IsOpenedTold l.lead_ins other n tree) → IsFoundOf bytes listing l (words_told l) (presentation_of file a.0) (presentation_of other b.0) found → PutsSuch Took (IsTold listing l file other)
-told_of bytes listing l file other m n None same Took is differ put a b h = absurd (true_false (sym is ∙ differ))
-told_of bytes listing l file other m n (Some text) same Took is differ put a b h = (
+pub told_of : {A : Type 0} (bytes : A → List ℕ) (asked : Asked) (file other : List ℕ) (m n : MovieSeen) (found : Option A) (same : Bool) (Took : List ℕ → Type 0) → same ≡ says_nothing found → same ≡ false → PutsFound bytes found Took
+    → (a : (tree : FileTree) × IsOpenedTold asked.first asked.leaving.lead_ins file m tree) → (b : (tree : FileTree) × IsOpenedTold asked.second asked.leaving.lead_ins other n tree)
+    → IsFoundOf bytes asked.listing asked.leaving (words_told asked.leaving) (presentation_of file a.0) (presentation_of other b.0) found → PutsSuch Took (IsTold asked file other)
+told_of bytes asked file other m n None same Took is differ put a b h = absurd (true_false (sym is ∙ differ))
+told_of bytes asked file other m n (Some text) same Took is differ put a b h = (
   bytes text,
   record {
     p = a.1.p;
     q = b.1.p;
-    first = judged_told l file m a.0 a.1;
-    second = judged_told l other n b.0 b.1;
-    first_shown = shown_limits l file m a.0 a.1;
-    second_shown = shown_limits l other n b.0 b.1;
-    tells = λ x y. tells_of l a.1.p b.1.p (presentation_of file a.0) (presentation_of other b.0) (opened_valid l file m a.0 x a.1) (opened_valid l other n b.0 y b.1) a.1.says b.1.says listing (bytes text) h;
+    first = shows_told (of_first asked) file m a.0 a.1;
+    second = shows_told (of_second asked) other n b.0 b.1;
+    first_shown = shown_limits (of_first asked) file m a.0 a.1;
+    second_shown = shown_limits (of_second asked) other n b.0 b.1;
+    tells = λ x y. tells_of asked.leaving a.1.p b.1.p (presentation_of file a.0) (presentation_of other b.0) (opened_valid (of_first asked) file m a.0 x a.1) (opened_valid (of_second asked) other n b.0 y b.1) a.1.says b.1.says asked.listing (bytes text) h;
   },
   put,
 )

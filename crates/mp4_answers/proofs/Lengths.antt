@@ -29,8 +29,10 @@ use Rattle.mp4_answers.specs.format.ReducedHeadline.{HasReducedForm}
 use Rattle.mp4_answers.specs.format.Texts.{sample_data}
 use Rattle.mp4_answers.proofs.ShownLines.{LieInFile, each_lies, judged}
 use Rattle.mp4_answers.proofs.TrackTexts.{track_found}
-use Rattle.mp4_answers.proofs.OpenedTold.{judged_told, left_is}
+use Rattle.mp4_answers.proofs.OpenedTold.{left_is, shows_told}
 use Rattle.mp4_answers.specs.words.OpenedTold.{IsOpenedTold}
+use Rattle.mp4_answers.specs.declared.selection.Selection.{Selection}
+use Rattle.mp4_answers.proofs.Alone.{shows_one}
 
 -- ---- a track with an ID is one
 
@@ -62,10 +64,10 @@ form_long file m tree n o e text h =
     let same = judged_one file h.0 (presentation_of file tree) h.1 (judged file m tree o) in
     ap length h.2 ∙ ap (λ (p : Presentation). length (normal p)) same ∙ sym e
 
-pub left_long : (l : Without) (file : List ℕ) (m : MovieSeen) (tree : FileTree) (n : ℕ) → IsOpenedTold l.lead_ins file m tree → n ≡ length (normal (remaining (words_told l) (presentation_of file tree))) → AreLong (HasReducedForm l file) n
-left_long l file m tree n o e text h =
-    let same = judged_one file h.0 o.p h.1 (judged_told l file m tree o) in
-    ap length h.3 ∙ ap (λ (p : Presentation). length (normal (left_of l p))) same ∙ ap (λ (p : Presentation). length (normal p)) (sym (left_is l file m tree o)) ∙ sym e
+pub left_long : (s : Selection) (file : List ℕ) (m : MovieSeen) (tree : FileTree) (n : ℕ) → IsOpenedTold s.track s.leaving.lead_ins file m tree → n ≡ length (normal (remaining (words_told s.leaving) (presentation_of file tree))) → AreLong (HasReducedForm s file) n
+left_long s file m tree n o e text h =
+    let same = shows_one s.track file h.0 o.p h.1 (shows_told s file m tree o) in
+    ap length h.3 ∙ ap (λ (p : Presentation). length (normal (left_of s.leaving p))) same ∙ ap (λ (p : Presentation). length (normal p)) (sym (left_is s file m tree o)) ∙ sym e
 
 -- the bytes that are counted of a track are those of its samples
 counted : (file : List ℕ) (tree : FileTree) (trees : List TrackTree) (infos : List TrackInfo) (k : ℕ) (t : TrackTree) (info : TrackInfo) → AllByRecursion (LieInFile file tree) trees → AllZip (IsInfoOf file tree) trees infos
@@ -103,13 +105,14 @@ module _ (honest honest_then : Bool) (file file_then : List ℕ) (m : MovieSeen)
   form_measured (Err e) long = tt
 
 -- the same of one that may be told how long its tracks wait
-module _ (l w : Without) (same : w ≡ words_told l) (honest honest_then : Bool) (file file_then : List ℕ) (m : MovieSeen) (same_honesty : honest_then ≡ honest) (same_file : file_then ≡ file) (opened : IsTrue honest → (t : FileTree) × IsOpenedTold l.lead_ins file m t) where
+module _ (s : Selection) (w : Without) (same : w ≡ words_told s.leaving) (honest honest_then : Bool) (file file_then : List ℕ) (m : MovieSeen) (same_honesty : honest_then ≡ honest) (same_file : file_then ≡ file) (opened : IsTrue honest
+    → (t : FileTree) × IsOpenedTold s.track s.leaving.lead_ins file m t) where
   -- it is so long by the words that it is left by
   abbrev Long : ℕ → Without → Bool → List ℕ → Type 0
   Long n x told f = IsTrue told → (t : FileTree) → IsOpenedAs f m t → n ≡ length (normal (remaining x (presentation_of f t)))
 
-  pub left_measured : (answer : Result ℕ Refusal) → (IsTrue honest_then → (t : FileTree) → IsOpenedAs file_then m t → IfOk answer (λ n. n ≡ length (normal (remaining w (presentation_of file_then t))))) → IfOk answer (λ n. IsTrue honest → AreLong (HasReducedForm l file) n)
+  pub left_measured : (answer : Result ℕ Refusal) → (IsTrue honest_then → (t : FileTree) → IsOpenedAs file_then m t → IfOk answer (λ n. n ≡ length (normal (remaining w (presentation_of file_then t))))) → IfOk answer (λ n. IsTrue honest → AreLong (HasReducedForm s file) n)
   left_measured (Ok n) long = λ told.
-      let here = subst (λ b. Long n (words_told l) b file) same_honesty (subst (Long n (words_told l) honest_then) same_file (subst (λ x. Long n x honest_then file_then) same long)) in
-      left_long l file m (opened told).0 n (opened told).1 (here told (opened told).0 (opened told).1.opened)
+      let here = subst (λ b. Long n (words_told s.leaving) b file) same_honesty (subst (Long n (words_told s.leaving) honest_then) same_file (subst (λ x. Long n x honest_then file_then) same long)) in
+      left_long s file m (opened told).0 n (opened told).1 (here told (opened told).0 (opened told).1.opened)
   left_measured (Err e) long = tt

@@ -14,6 +14,7 @@ pub mod SampleTexts
 pub mod ShownLines
 pub mod WalkLines
 pub mod TrackTexts
+pub mod Alone
 pub mod Lengths
 pub mod Matched
 pub mod Normalised

@@ -1,6 +1,6 @@
 -- The looks of the commands, by what opening, planning and writing promise.
 use Rattle.std.proofs.Common.{◌≡◌, ℕ, ◌+◌, ◌*◌, ◌≤◌, List, [], ◌∷◌, length, map, inl, refl, sym, ap, subst, ◌∙◌, arith}
-use Rattle.std.specs.Prelude.{Bool, Err, IsTrue}
+use Rattle.std.specs.Prelude.{Bool, Option, Err, IsTrue}
 use Rattle.std.specs.List.{AllByRecursion, AllZip, sum_by}
 use Rattle.std.proofs.lemmas.List.{length-map}
 use Rattle.std.proofs.lemmas.List.Sums.{sum_by-cons}
@@ -27,6 +27,7 @@ use Rattle.mp4_answers.specs.format.CompareHeadline.{FindsBothWithin}
 use Rattle.mp4_answers.proofs.RunParts.{denotes_nothing}
 use Rattle.mp4_answers.proofs.ShownLines.{denoted}
 use Rattle.mp4_answers.proofs.ToldSteps.{told_many, told_total}
+use Rattle.mp4_answers.proofs.Alone.{fewer_samples, fewer_tracks}
 use Rattle.mp4_answers.specs.words.OpenedTold.{IsOpenedTold}
 
 -- ---- sums
@@ -109,18 +110,20 @@ module _ (file : List ℕ) (old new : ℕ) where
 -- ---- the turns of a movie that may be told how long its tracks wait
 
 -- it is opened, planned and written
-pub turns_taken : (b : Bool) (file : List ℕ) (m : MovieSeen) (old behind new : ℕ) → ((tree : FileTree) × IsOpenedTold b file m tree) → FindsWithin file old behind → new ≤ behind + 2 * most_turns (sum_by (λ (i : TrackInfo). i.samples) m.tracks) (length m.tracks) → TurnsWithin file old new
-turns_taken b file m old behind new (tree, o) finds turns = record {
+pub turns_taken : (track : Option ℕ) (b : Bool) (file : List ℕ) (m : MovieSeen) (old behind new : ℕ) → ((tree : FileTree) × IsOpenedTold track b file m tree) → FindsWithin file old behind → new ≤ behind + 2 * most_turns (sum_by (λ (i : TrackInfo). i.samples) m.tracks) (length m.tracks)
+    → TurnsWithin file old new
+turns_taken track b file m old behind new (tree, o) finds turns = record {
   denoted = λ p d.
-      let one = denotes_one file o.p p o.denotes d in
-      let tracks : length m.tracks ≡ length p.tracks =
-      infos_length file tree tree.movie.tracks m.tracks o.opened.tracks ∙ sym (as_many_tracks file tree) ∙ ap (λ (q : Presentation). length q.tracks) o.says ∙ told_many b o.p ∙ ap (λ (q : Presentation). length q.tracks) one in
-      let samples : sum_by (λ (i : TrackInfo). i.samples) m.tracks ≡ sample_total p =
-      infos_total file tree tree.movie.tracks m.tracks o.opened.tracks ∙ ap sample_total o.says ∙ told_total b o.p ∙ ap sample_total one in
-      let all = subst (λ k. new ≤ behind + 2 * most_turns (sample_total p) k) tracks (subst (λ s. new ≤ behind + 2 * most_turns s (length m.tracks)) samples turns) in
+      let one = denotes_one file o.whole p o.denotes d in
+      let tracks : length m.tracks ≡ length o.p.tracks =
+      infos_length file tree tree.movie.tracks m.tracks o.opened.tracks ∙ sym (as_many_tracks file tree) ∙ ap (λ (q : Presentation). length q.tracks) o.says ∙ told_many b o.p in
+      let samples : sum_by (λ (i : TrackInfo). i.samples) m.tracks ≡ sample_total o.p =
+      infos_total file tree tree.movie.tracks m.tracks o.opened.tracks ∙ ap sample_total o.says ∙ told_total b o.p in
+      let few_tracks : length o.p.tracks ≤ length p.tracks = subst (λ (q : Presentation). length o.p.tracks ≤ length q.tracks) one (subst (λ (q : Presentation). length q.tracks ≤ length o.whole.tracks) (sym o.is) (fewer_tracks track o.whole)) in
+      let few_samples : sample_total o.p ≤ sample_total p = subst (λ (q : Presentation). sample_total o.p ≤ sample_total q) one (subst (λ (q : Presentation). sample_total q ≤ sample_total o.whole) (sym o.is) (fewer_samples track o.whole)) in
       let own = finds.denoted p d in
-      omega (arith, own, all);
-  refused = λ nothing. absurd (nothing o.p o.denotes);
+      omega (arith, own, turns, tracks, samples, few_tracks, few_samples);
+  refused = λ nothing. absurd (nothing o.whole o.denotes);
 }
 
 -- a file that is opened, whatever comes then

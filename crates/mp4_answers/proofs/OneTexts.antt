@@ -21,6 +21,7 @@ use Rattle.mp4_answers.specs.format.BoxTexts.{AreBoxLines, box_line}
 use Rattle.mp4_answers.specs.format.Texts.{descends, line_feed, show_value, sample_listing, sample_data, IsPart}
 use Rattle.mp4_answers.proofs.Lengths.{track_is_one}
 use Rattle.mp4_answers.proofs.StripCopies.{next_freed, next_kept, next_entered, nothing_stands}
+use Rattle.mp4_answers.proofs.Alone.{shows_one}
 
 -- ---- copies in which boxes are free space
 
@@ -89,9 +90,9 @@ list_of_boxes_is_one form file text other x y = lines_one form 6 0 File _ text o
 pub judged_texts_are_one : JudgedTextsAreOne
 judged_texts_are_one = record {
   normal_form = λ file bytes other x y. x.2 ∙ ap (λ (p : Presentation). normal p) (judged_one file x.0 y.0 x.1 y.1) ∙ sym y.2;
-  reduced_form = λ l file bytes other x y. x.3 ∙ ap (λ (p : Presentation). normal (left_of l p)) (judged_one file x.0 y.0 x.1 y.1) ∙ sym y.3;
+  reduced_form = λ s file bytes other x y. x.3 ∙ ap (λ (p : Presentation). normal (left_of s.leaving p)) (shows_one s.track file x.0 y.0 x.1 y.1) ∙ sym y.3;
   shown = λ file bytes other x y. x.2 ∙ ap (λ (p : Presentation). compact_text (show_value p) ++ line_feed) (judged_one file x.0 y.0 x.1 y.1) ∙ sym y.2;
   listed = λ file id form bytes other x y. x.2 ∙ ap (λ (t : Track). sample_listing form t) (track_is_one file id x.0 y.0 x.1 y.1) ∙ sym y.2;
   extracted = λ file id bytes other x y. x.2 ∙ ap (λ (t : Track). sample_data t) (track_is_one file id x.0 y.0 x.1 y.1) ∙ sym y.2;
-  printed = λ l file bytes other x y. x.3 ∙ ap (λ (p : Presentation). text l p) (judged_one file x.0 y.0 x.1 y.1) ∙ sym y.3;
+  printed = λ s file bytes other x y. x.3 ∙ ap (λ (p : Presentation). text s.leaving p) (shows_one s.track file x.0 y.0 x.1 y.1) ∙ sym y.3;
 }

@@ -8,17 +8,19 @@ use Rattle.mp4_boxes.specs.declared.refusal.Refusal.TheVariants as refusals
 use Rattle.mp4_boxes.specs.format.Box.{Box}
 use Rattle.mp4_boxes.specs.format.BoxFaults.{fault_of}
 use Rattle.mp4_boxes.specs.declared.fault.Kind.TheVariants.{OffsetTooLarge, TimeTooLarge}
+use Rattle.mp4_boxes.proofs.Plain.{get_map}
 use Rattle.mp4_head.specs.format.Tree.{TrackTree, first_of}
 use Rattle.mp4_present.specs.format.Denotes.{FileTree, file_parts, presentation_of, track_of}
-use Rattle.mp4_present.specs.format.Judge.{judge}
 use Rattle.mp4_present.specs.format.Presentation.{IsWithinLimits, Presentation, Track, Valid}
 use Rattle.mp4_present.specs.format.Waiting.{waiting_all}
 use Rattle.mp4_present.specs.words.Movies.{MovieSeen}
+use Rattle.mp4_present.specs.words.OneTrack.{only_tree}
 use Rattle.mp4_present.specs.words.OpenedMovie.{IsOpenedAs, IsOpenedOwn}
 use Rattle.mp4_present.specs.words.Opening.{RefusesOpen}
 use Rattle.mp4_present.specs.words.ToldTrees.{AreTracksTold, IsFileTold, IsTold, later_waits}
 use Rattle.mp4_present.specs.words.Waits.{NamesLimitOf}
 use Rattle.mp4_present.proofs.ToldTrees.{file_denotes, told_presents}
+use Rattle.mp4_tables.proofs.GroupWalks.{found_there}
 use Rattle.mp4_content.specs.format.LeadIns.{delays_of, left_of, says_beginnings, told, words_told}
 use Rattle.mp4_content.specs.format.ReducedTimes.{FailsLeft, IsFaultLeft, IsLeftInTime, IsLeftNear}
 use Rattle.mp4_content.specs.words.LeftTimes.{IsTreeFault, TreeLeftInLimits, TreePassesLimits}
@@ -31,8 +33,12 @@ use Rattle.mp4_content.proofs.LeadInsValid.{valid_told}
 use Rattle.mp4_plan.specs.format.Normal.{normal}
 use Rattle.mp4_plan.proofs.Judged.{denoted_judged}
 use Rattle.mp4_answers.specs.format.ReducedHeadline.{HasReducedForm, LeftFaultStands}
+use Rattle.mp4_answers.specs.format.Selected.{Shows, alone, alone_tree}
 use Rattle.mp4_answers.specs.format.Told.{IsLeftInLimits, judge_told}
-use Rattle.mp4_answers.specs.words.OpenedTold.{IsOpenedTold, NamesTold, RefusesTell, RefusesTold, TellsOver}
+use Rattle.mp4_answers.specs.words.OpenedTold.{IsAloneOf, IsOpenedTold, IsTellingOf, LacksAlone, NamesTold, RefusesAlone, RefusesTell, RefusesTold, TellsOver}
+use Rattle.mp4_answers.specs.declared.selection.Selection.{Selection}
+use Rattle.mp4_answers.proofs.Alone.{alone_valid, presents_alone}
+use Rattle.mp4_answers.proofs.ShownLines.{judged}
 use Rattle.mp4_answers.proofs.ToldFaults.{limit_told, own_fault}
 
 -- ---- what is told
@@ -55,24 +61,56 @@ none_told p = by (says_beginnings p) refl
 
 -- ---- a movie that is not told anything
 
-pub own_told : (file : List ℕ) (m : MovieSeen) (tree : FileTree) → IsOpenedOwn file m tree → IsOpenedTold false file m tree
+pub own_told : (file : List ℕ) (m : MovieSeen) (tree : FileTree) → IsOpenedOwn file m tree → IsOpenedTold None false file m tree
 own_told file m tree o = record {
-  p = presentation_of file tree;
+  whole = presentation_of file tree;
   denotes = file_denotes file m tree o;
+  has = tt;
   opened = o.opened;
-  is_told = subst (λ (waits : Option (List ℕ)). IsTold waits tree tree) (sym o.own_edits) refl;
+  is_told = subst (λ (only : Option ℕ). IsTold m.waits (only_tree only tree) tree) (sym o.own_tracks) (subst (λ (waits : Option (List ℕ)). IsTold waits tree tree) (sym o.own_edits) refl);
+  alone_is = ap (λ (only : Option ℕ). only_tree only tree) o.own_tracks;
+  p = presentation_of file tree;
+  is = refl;
   says = refl;
+}
+
+-- or of one track alone
+pub alone_told : (track : Option ℕ) (file : List ℕ) (own m : MovieSeen) (tree : FileTree) → IsOpenedOwn file own tree → IsAloneOf track file tree m → IsOpenedTold track false file m (only_tree m.only tree)
+alone_told track file own m tree o a = record {
+  whole = presentation_of file tree;
+  denotes = file_denotes file own tree o;
+  has = a.has;
+  opened = a.opened;
+  is_told = subst (λ (waits : Option (List ℕ)). IsTold waits (only_tree m.only tree) (only_tree m.only tree)) (sym a.own_edits) refl;
+  alone_is = a.is;
+  p = alone track (presentation_of file tree);
+  is = refl;
+  says = ap (presentation_of file) a.is ∙ presents_alone file track tree;
 }
 
 -- ---- a movie that is
 
-pub movie_told : (file : List ℕ) (m n : MovieSeen) (tree t : FileTree) → IsOpenedOwn file m tree → IsOpenedAs file n t → IsTold n.waits tree t → presentation_of file t ≡ told true (presentation_of file tree) → IsOpenedTold true file n t
-movie_told file m n tree t o opened is says = record { p = presentation_of file tree; denotes = file_denotes file m tree o; opened = opened; is_told = is; says = says }
+pub movie_told : (track : Option ℕ) (file : List ℕ) (own m n : MovieSeen) (tree : FileTree) → IsOpenedOwn file own tree → IsAloneOf track file tree m → (h : IsTellingOf file m (only_tree m.only tree) n) → IsOpenedTold track true file n h.t
+movie_told track file own m n tree o a h =
+    let same : only_tree m.only tree ≡ only_tree n.only tree = ap (λ (only : Option ℕ). only_tree only tree) (sym h.only) in
+    record {
+      whole = presentation_of file tree;
+      denotes = file_denotes file own tree o;
+      has = a.has;
+      opened = h.opened;
+      is_told = subst (λ (u : FileTree). IsTold n.waits u h.t) same h.is_told;
+      alone_is = sym same ∙ a.is;
+      p = alone track (presentation_of file tree);
+      is = refl;
+      says = h.says ∙ ap (told true) (ap (presentation_of file) a.is ∙ presents_alone file track tree);
+    }
 
 -- the limit that it passes
-pub limit_named : (file : List ℕ) (m : MovieSeen) (tree : FileTree) (f : Fault) → IsOpenedOwn file m tree → NamesTold file tree (refusals.Fault f) → judge_told true file ≡ Err f
-limit_named file m tree f o (waits, is, (t, told_so, (head, says, fails))) =
-    limit_told file (presentation_of file tree) (file_denotes file m tree o) waits t head f told_so says fails (told_presents waits file tree t told_so ∙ sym (some_told (presentation_of file tree) waits is))
+pub limit_named : (track : Option ℕ) (file : List ℕ) (own m : MovieSeen) (tree : FileTree) (f : Fault) → IsOpenedOwn file own tree → IsAloneOf track file tree m → NamesTold file (only_tree m.only tree) (refusals.Fault f) → judge_told track true file ≡ Err f
+limit_named track file own m tree f o a (waits, is, (t, told_so, (head, says, fails))) =
+    let u = only_tree m.only tree in
+    limit_told track file (presentation_of file tree) (file_denotes file own tree o) waits t head f (subst (λ (x : FileTree). IsFileTold waits x t) a.is told_so) says fails
+    (told_presents waits file u t told_so ∙ sym (some_told (presentation_of file u) waits is) ∙ ap (told true) (ap (presentation_of file) a.is ∙ presents_alone file track tree))
 
 -- what is told of an opened movie, by what its parts promise
 module _ (file : List ℕ) (tree : FileTree) where
@@ -84,13 +122,25 @@ module _ (file : List ℕ) (tree : FileTree) where
   not_found_told reads reads_after refusals.WriteFailed w = tt
   not_found_told reads reads_after refusals.NoSuchTrack w = tt
 
-  pub untold : (m : MovieSeen) → IsOpenedAs file m tree → m.waits ≡ None → told_waits (presentation_of file tree) ≡ None → (t : FileTree) × IsOpenedAs file m t × IsTold m.waits tree t × (presentation_of file t ≡ told true (presentation_of file tree))
-  untold m o own none = (tree, o, subst (λ (waits : Option (List ℕ)). IsTold waits tree tree) (sym own) refl, sym (none_told (presentation_of file tree) none))
+  pub untold : (m : MovieSeen) → IsOpenedAs file m tree → m.waits ≡ None → told_waits (presentation_of file tree) ≡ None → IsTellingOf file m tree m
+  untold m o own none = record {
+    t = tree;
+    opened = o;
+    only = refl;
+    is_told = subst (λ (waits : Option (List ℕ)). IsTold waits tree tree) (sym own) refl;
+    says = sym (none_told (presentation_of file tree) none);
+  }
 
   module _ (m : MovieSeen) (waits : List ℕ) (is : told_waits (presentation_of file tree) ≡ Some waits) where
     pub told_made : (result : Result MovieSeen Refusal) → IfOk result (λ n. (t : FileTree) × IsOpenedAs file n t × IsFileTold waits tree t × (presentation_of file t ≡ waiting_all waits (presentation_of file tree))) → IfOk result (λ n. n ≡ record m { waits = Some waits; mehd = n.mehd })
-        → IfOk result (λ n. (t : FileTree) × IsOpenedAs file n t × IsTold n.waits tree t × (presentation_of file t ≡ told true (presentation_of file tree)))
-    told_made (Ok n) (t, opened, told_so, says) kept = (t, opened, subst (λ (ws : Option (List ℕ)). IsTold ws tree t) (ap (λ (x : MovieSeen). x.waits) (sym kept)) told_so, says ∙ sym (some_told (presentation_of file tree) waits is))
+        → IfOk result (IsTellingOf file m tree)
+    told_made (Ok n) (t, opened, told_so, says) kept = record {
+      t = t;
+      opened = opened;
+      only = ap (λ (x : MovieSeen). x.only) kept;
+      is_told = subst (λ (ws : Option (List ℕ)). IsTold ws tree t) (ap (λ (x : MovieSeen). x.waits) (sym kept)) told_so;
+      says = says ∙ sym (some_told (presentation_of file tree) waits is);
+    }
     told_made (Err e) made kept = tt
 
     names : (e : Refusal) → NamesLimitOf file waits tree e → NamesTold file tree e
@@ -107,44 +157,61 @@ module _ (file : List ℕ) (tree : FileTree) where
 
 -- ---- a file that is opened so
 
-pub open_refuses : (b honest : Bool) (file : List ℕ) (reads reads_after : ℕ) (e : Refusal) → RefusesOpen honest file reads reads_after e → RefusesTold b honest file reads reads_after e
-open_refuses b honest file reads reads_after (refusals.Fault f) w = λ told. own_fault b file f (w told)
-open_refuses b honest file reads reads_after refusals.Memory w = w
-open_refuses b honest file reads reads_after refusals.StoreFailed w = w
-open_refuses b honest file reads reads_after refusals.StoreChanged w = w
-open_refuses b honest file reads reads_after refusals.WriteFailed w = absurd w
-open_refuses b honest file reads reads_after refusals.NoSuchTrack w = absurd w
+pub open_refuses : (track : Option ℕ) (b honest : Bool) (file : List ℕ) (reads reads_after : ℕ) (e : Refusal) → RefusesOpen honest file reads reads_after e → RefusesTold track b honest file reads reads_after e
+open_refuses track b honest file reads reads_after (refusals.Fault f) w = λ told. own_fault track b file f (w told)
+open_refuses track b honest file reads reads_after refusals.Memory w = w
+open_refuses track b honest file reads reads_after refusals.StoreFailed w = w
+open_refuses track b honest file reads reads_after refusals.StoreChanged w = w
+open_refuses track b honest file reads reads_after refusals.WriteFailed w = absurd w
+open_refuses track b honest file reads reads_after refusals.NoSuchTrack w = absurd w
 
-module _ (b : Bool) (asked : b ≡ true) (honest : Bool) (file : List ℕ) (m : MovieSeen) (opened : IsTrue honest → (tree : FileTree) × IsOpenedOwn file m tree) (result : Result MovieSeen Refusal) (old new : ℕ)
-    (tells : IsTrue honest → (tree : FileTree) → IsOpenedAs file m tree → m.waits ≡ None → TellsOver file tree result old new) where
-  pub tells_here : (told : IsTrue honest) → TellsOver file (opened told).0 result old new
-  tells_here told = let o = opened told in tells told o.0 o.1.opened o.1.own_edits
+-- a file that is opened, but not of one track
+module _ (b honest : Bool) (file : List ℕ) (own : MovieSeen) (opened : IsTrue honest → (tree : FileTree) × IsOpenedOwn file own tree) (reads reads_after : ℕ) where
+  pub alone_refuses : (track : Option ℕ) (e : Refusal) → ((f : List ℕ) (tree : FileTree) → IsOpenedOwn f own tree → LacksAlone track (presentation_of f tree) e) → RefusesAlone track e → RefusesTold track b honest file reads reads_after e
+  alone_refuses None e lacks w = absurd w
+  alone_refuses (Some id) (refusals.Fault f) lacks w = λ told. absurd (lacks file (opened told).0 (opened told).1)
+  alone_refuses (Some id) refusals.Memory lacks w = tt
+  alone_refuses (Some id) refusals.StoreFailed lacks w = absurd w
+  alone_refuses (Some id) refusals.StoreChanged lacks w = λ told. lacks file (opened told).0 (opened told).1
+  alone_refuses (Some id) refusals.WriteFailed lacks w = absurd w
+  alone_refuses (Some id) refusals.NoSuchTrack lacks w = λ told.
+      let o = opened told in
+      (presentation_of file o.0, judged file own o.0 o.1, lacks file o.0 o.1)
 
-  movie_at : (n : MovieSeen) → ((honestly : IsTrue honest) → (t : FileTree) × IsOpenedAs file n t × IsTold n.waits (opened honestly).0 t × (presentation_of file t ≡ told true (presentation_of file (opened honestly).0))) → IsTrue honest → (t : FileTree) × IsOpenedTold b file n t
+module _ (track : Option ℕ) (b : Bool) (asked : b ≡ true) (honest : Bool) (file : List ℕ) (own m : MovieSeen) (opened : IsTrue honest → (tree : FileTree) × IsOpenedOwn file own tree) (alone_of : (f : List ℕ) (tree : FileTree) → IsOpenedOwn f own tree → IsAloneOf track f tree m)
+    (result : Result MovieSeen Refusal) (old new : ℕ) (tells : IsTrue honest → (tree : FileTree) → IsOpenedAs file m tree → m.waits ≡ None → TellsOver file m tree result old new) where
+  of_file : (told : IsTrue honest) → IsAloneOf track file (opened told).0 m
+  of_file told = alone_of file (opened told).0 (opened told).1
+
+  pub tells_here : (told : IsTrue honest) → TellsOver file m (only_tree m.only (opened told).0) result old new
+  tells_here told = let a = of_file told in tells told (only_tree m.only (opened told).0) a.opened a.own_edits
+
+  movie_at : (n : MovieSeen) → ((told : IsTrue honest) → IsTellingOf file m (only_tree m.only (opened told).0) n) → IsTrue honest → (t : FileTree) × IsOpenedTold track b file n t
   movie_at n made honestly =
       let o = opened honestly in
       let h = made honestly in
-      (h.0, subst (λ x. IsOpenedTold x file n h.0) (sym asked) (movie_told file m n o.0 h.0 o.1 h.1 h.2 h.3))
+      (h.t, subst (λ x. IsOpenedTold track x file n h.t) (sym asked) (movie_told track file own m n o.0 o.1 (of_file honestly) h))
 
-  fault_at : (f : Fault) → ((told : IsTrue honest) → NamesTold file (opened told).0 (refusals.Fault f)) → IsTrue honest → judge_told b file ≡ Err f
-  fault_at f named honestly = let o = opened honestly in subst (λ x. judge_told x file ≡ Err f) (sym asked) (limit_named file m o.0 f o.1 (named honestly))
+  fault_at : (f : Fault) → ((told : IsTrue honest) → NamesTold file (only_tree m.only (opened told).0) (refusals.Fault f)) → IsTrue honest → judge_told track b file ≡ Err f
+  fault_at f named honestly = let o = opened honestly in subst (λ x. judge_told track x file ≡ Err f) (sym asked) (limit_named track file own m o.0 f o.1 (of_file honestly) (named honestly))
 
-pub opened_over : (b : Bool) → b ≡ true → (honest : Bool) (file : List ℕ) (m : MovieSeen) (opened : IsTrue honest → (tree : FileTree) × IsOpenedOwn file m tree) (result : Result MovieSeen Refusal) (old new : ℕ)
-    → (IsTrue honest → (tree : FileTree) → IsOpenedAs file m tree → m.waits ≡ None → TellsOver file tree result old new)
-    → IfOk result (λ n. IsTrue honest → (t : FileTree) × IsOpenedTold b file n t)
-opened_over b asked honest file m opened (Ok n) old new tells = movie_at b asked honest file m opened (Ok n) old new tells n (λ honestly. (tells_here b asked honest file m opened (Ok n) old new tells honestly).movie)
-opened_over b asked honest file m opened (Err e) old new tells = tt
+pub opened_over : (track : Option ℕ) (b : Bool) → b ≡ true → (honest : Bool) (file : List ℕ) (own m : MovieSeen) (opened : IsTrue honest → (tree : FileTree) × IsOpenedOwn file own tree) → ((f : List ℕ) (tree : FileTree) → IsOpenedOwn f own tree → IsAloneOf track f tree m)
+    → (result : Result MovieSeen Refusal) (old new : ℕ) → (IsTrue honest → (tree : FileTree) → IsOpenedAs file m tree → m.waits ≡ None → TellsOver file m tree result old new)
+    → IfOk result (λ n. IsTrue honest → (t : FileTree) × IsOpenedTold track b file n t)
+opened_over track b asked honest file own m opened of (Ok n) old new tells = movie_at track b asked honest file own m opened of (Ok n) old new tells n (λ honestly. (tells_here track b asked honest file own m opened of (Ok n) old new tells honestly).movie)
+opened_over track b asked honest file own m opened of (Err e) old new tells = tt
 
-pub tell_refuses : (b : Bool) → b ≡ true → (honest : Bool) (file : List ℕ) (m : MovieSeen) (opened : IsTrue honest → (tree : FileTree) × IsOpenedOwn file m tree) (result : Result MovieSeen Refusal) (old new : ℕ)
-    → (IsTrue honest → (tree : FileTree) → IsOpenedAs file m tree → m.waits ≡ None → TellsOver file tree result old new)
-    → (reads reads_after : ℕ) → IfErr result (RefusesTell reads reads_after) → IfErr result (RefusesTold b honest file reads reads_after)
-tell_refuses b asked honest file m opened (Ok n) old new tells reads reads_after w = tt
-tell_refuses b asked honest file m opened (Err (refusals.Fault f)) old new tells reads reads_after w = fault_at b asked honest file m opened (Err (refusals.Fault f)) old new tells f (λ honestly. (tells_here b asked honest file m opened (Err (refusals.Fault f)) old new tells honestly).fault)
-tell_refuses b asked honest file m opened (Err refusals.Memory) old new tells reads reads_after w = w
-tell_refuses b asked honest file m opened (Err refusals.StoreFailed) old new tells reads reads_after w = w
-tell_refuses b asked honest file m opened (Err refusals.StoreChanged) old new tells reads reads_after w = λ honestly. (tells_here b asked honest file m opened (Err refusals.StoreChanged) old new tells honestly).unchanged refl
-tell_refuses b asked honest file m opened (Err refusals.WriteFailed) old new tells reads reads_after w = absurd w
-tell_refuses b asked honest file m opened (Err refusals.NoSuchTrack) old new tells reads reads_after w = absurd w
+pub tell_refuses : (track : Option ℕ) (b : Bool) → b ≡ true → (honest : Bool) (file : List ℕ) (own m : MovieSeen) (opened : IsTrue honest → (tree : FileTree) × IsOpenedOwn file own tree) → ((f : List ℕ) (tree : FileTree) → IsOpenedOwn f own tree → IsAloneOf track f tree m)
+    → (result : Result MovieSeen Refusal) (old new : ℕ) → (IsTrue honest → (tree : FileTree) → IsOpenedAs file m tree → m.waits ≡ None → TellsOver file m tree result old new)
+    → (reads reads_after : ℕ) → IfErr result (RefusesTell reads reads_after) → IfErr result (RefusesTold track b honest file reads reads_after)
+tell_refuses track b asked honest file own m opened of (Ok n) old new tells reads reads_after w = tt
+tell_refuses track b asked honest file own m opened of (Err (refusals.Fault f)) old new tells reads reads_after w = fault_at track b asked honest file own m opened of (Err (refusals.Fault f)) old new tells f (λ honestly. (tells_here track b asked honest file own m opened of (Err
+    (refusals.Fault f)) old new tells honestly).fault)
+tell_refuses track b asked honest file own m opened of (Err refusals.Memory) old new tells reads reads_after w = w
+tell_refuses track b asked honest file own m opened of (Err refusals.StoreFailed) old new tells reads reads_after w = w
+tell_refuses track b asked honest file own m opened of (Err refusals.StoreChanged) old new tells reads reads_after w = λ honestly. (tells_here track b asked honest file own m opened of (Err refusals.StoreChanged) old new tells honestly).unchanged refl
+tell_refuses track b asked honest file own m opened of (Err refusals.WriteFailed) old new tells reads reads_after w = absurd w
+tell_refuses track b asked honest file own m opened of (Err refusals.NoSuchTrack) old new tells reads reads_after w = absurd w
 
 -- ---- the first track of which what is left has no normal form
 
@@ -161,14 +228,6 @@ own_boxes : (waits : Option (List ℕ)) (own t : FileTree) → IsTold waits own 
 own_boxes None own t same k x e = (x, ap (λ (y : FileTree). slice_get y.movie.tracks k) (sym same) ∙ e, refl)
 own_boxes (Some waits) own t told_so k x e = boxes_told waits own.movie.tracks t.movie.tracks told_so.movie.tracks k x e
 
-got : {A : Type 0} (before after : List A) (x : A) → slice_get (before ++ x ∷ after) (length before) ≡ Some x
-got [] after x = refl
-got (y ∷ before) after x = got before after x
-
-got_mapped : {A B : Type 0} (g : A → B) (before after : List A) (x : A) → slice_get (map g (before ++ x ∷ after)) (length before) ≡ Some (g x)
-got_mapped g [] after x = refl
-got_mapped g (y ∷ before) after x = got_mapped g before after x
-
 all_before : {A B : Type 0} (g : A → B) (P : A → Type 0) (Q : B → Type 0) → ((y : A) → P y → Q (g y)) → (before after : List A) (x : A) → AllByRecursion P before → AllByRecursion Q (take (length before) (map g (before ++ x ∷ after)))
 all_before g P Q f [] after x h = tt
 all_before g P Q f (y ∷ before) after x h = (f y h.0, all_before g P Q f before after x h.1)
@@ -181,13 +240,13 @@ fails_left : (l : Without) (file : List ℕ) (waits : Option (List ℕ)) (own tr
 fails_left l file waits own tree f is x =
     let g = track_of file (file_parts tree) in
     let p = presentation_of file tree in
-    let at = ap (λ (ts : List TrackTree). slice_get ts (length x.before)) x.tracks ∙ got x.before x.after x.t in
+    let at = ap (λ (ts : List TrackTree). slice_get ts (length x.before)) x.tracks ∙ found_there x.before x.after x.t in
     let u = own_boxes waits own tree is (length x.before) x.t at in
     record {
       place = length x.before;
       t = g x.t;
       its = u.0;
-      is_there = ap (λ (ts : List TrackTree). slice_get (map g ts) (length x.before)) x.tracks ∙ got_mapped g x.before x.after x.t;
+      is_there = get_map g tree.movie.tracks (length x.before) x.t at;
       has_boxes = u.1;
       before = subst (λ (ts : List TrackTree). AllByRecursion (λ (t : Track). IsLeftInTime l p t × IsLeftNear l p t) (take (length x.before) (map g ts))) (sym x.tracks)
           (all_before g (TreeLeftInLimits l file tree) (λ (t : Track). IsLeftInTime l p t × IsLeftNear l p t) (λ t h. h) x.before x.after x.t x.in_limits);
@@ -196,9 +255,12 @@ fails_left l file waits own tree f is x =
 
 -- ---- what is left
 
-module _ (l : Without) (file : List ℕ) (m : MovieSeen) (tree : FileTree) (o : IsOpenedTold l.lead_ins file m tree) where
-  pub judged_told : judge file ≡ Ok o.p
-  judged_told = denoted_judged file o.p o.denotes
+module _ (s : Selection) (file : List ℕ) (m : MovieSeen) (tree : FileTree) (o : IsOpenedTold s.track s.leaving.lead_ins file m tree) where
+  abbrev l : Without
+  l = s.leaving
+
+  pub shows_told : Shows s.track file o.p
+  shows_told = record { whole = o.whole; judged = denoted_judged file o.whole o.denotes; has = o.has; is = o.is }
 
   pub left_is : remaining (words_told l) (presentation_of file tree) ≡ left_of l o.p
   left_is = ap (remaining (words_told l)) o.says ∙ sym (left_is_told l o.p)
@@ -212,15 +274,29 @@ module _ (l : Without) (file : List ℕ) (m : MovieSeen) (tree : FileTree) (o : 
   pub limits_back : IsLeftInLimits l o.p → RemainsInLimits (words_told l) (presentation_of file tree)
   limits_back k = subst (RemainsInLimits (words_told l)) (sym o.says) k.left
 
-  pub form_told : RemainsInLimits (words_told l) (presentation_of file tree) → HasReducedForm l file (normal (remaining (words_told l) (presentation_of file tree)))
-  form_told r = (o.p, judged_told, limits_told r, ap normal left_is)
+  pub form_told : RemainsInLimits (words_told l) (presentation_of file tree) → HasReducedForm s file (normal (remaining (words_told l) (presentation_of file tree)))
+  form_told r = (o.p, shows_told, limits_told r, ap normal left_is)
 
-  pub fault_told : (f : Fault) → TreePassesLimits (words_told l) file tree f → LeftFaultStands l file f
-  fault_told f passes = record { p = o.p; denotes = o.denotes; shown = shown_limits; fails = subst (λ (q : Presentation). FailsLeft (words_told l) q q.tracks o.denotes.tree.movie.tracks f) o.says (fails_left (words_told l) file m.waits o.denotes.tree tree f o.is_told passes) }
+  pub fault_told : (f : Fault) → TreePassesLimits (words_told l) file tree f → LeftFaultStands s file f
+  fault_told f passes =
+      let fails = fails_left (words_told l) file m.waits (only_tree m.only o.denotes.tree) tree f o.is_told passes in
+      record {
+        whole = o.whole;
+        denotes = o.denotes;
+        has = o.has;
+        p = o.p;
+        is = o.is;
+        shown = shown_limits;
+        fails = subst (λ (q : Presentation). FailsLeft (words_told l) q q.tracks (alone_tree s.track o.denotes.tree).movie.tracks f) o.says
+            (subst (λ (u : FileTree). FailsLeft (words_told l) (presentation_of file tree) (presentation_of file tree).tracks u.movie.tracks f) o.alone_is fails);
+      }
 
-  pub shown_valid : Valid o.p → Valid (presentation_of file tree)
+  pub shown_valid : Valid o.whole → Valid (presentation_of file tree)
   shown_valid v = subst Valid (sym o.says) (by l.lead_ins shown_limits)
     where
+      own : Valid o.p
+      own = subst Valid (sym o.is) (alone_valid s.track o.whole v)
+
       by : (b : Bool) → IsWithinLimits (told b o.p) → Valid (told b o.p)
-      by true limits = valid_told o.p v limits
-      by false limits = v
+      by true limits = valid_told o.p own limits
+      by false limits = own

@@ -20,9 +20,10 @@ use Rattle.mp4_present.specs.words.Movies.{MovieSeen}
 use Rattle.mp4_present.specs.format.Presentation.{Presentation}
 use Rattle.mp4_content.specs.format.LeadIns.{words_told}
 use Rattle.mp4_answers.specs.words.OpenedTold.{IsOpenedTold}
-use Rattle.mp4_answers.proofs.OpenedTold.{judged_told, left_is, shown_limits}
+use Rattle.mp4_answers.proofs.OpenedTold.{left_is, shown_limits, shows_told}
 use Rattle.mp4_present.specs.words.HeadsRead.{SaysMovie}
 use Rattle.mp4_content.specs.declared.without.Without.{Without}
+use Rattle.mp4_answers.specs.declared.selection.Selection.{Selection}
 use Rattle.mp4_answers.specs.format.FileTexts.{PrintsText}
 use Rattle.mp4_answers.specs.format.Text.{front_lines, movie_lines, text, text_of, track_text}
 use Rattle.mp4_answers.specs.words.PrintedTracks.{HeadsRemain}
@@ -31,13 +32,16 @@ use Rattle.mp4_answers.proofs.TextsGoOn.{text_next, text_fails, texts_not_put, t
 use Rattle.mp4_present.proofs.ToldTrees.{tree_said}
 
 -- some of the first bytes of the text of the file were put; all of them were
-abbrev pub FrontPrinted : Without → List ℕ → (List ℕ → Type 0) → Type 0
-FrontPrinted l file Took = (bytes : List ℕ) × PrintsText l file bytes × TakesPrefix Took bytes
+abbrev pub FrontPrinted : Selection → List ℕ → (List ℕ → Type 0) → Type 0
+FrontPrinted chosen file Took = (bytes : List ℕ) × PrintsText chosen file bytes × TakesPrefix Took bytes
 
-abbrev pub AllPrinted : Without → List ℕ → (List ℕ → Type 0) → Type 0
-AllPrinted l file Took = (bytes : List ℕ) × PrintsText l file bytes × Took bytes
+abbrev pub AllPrinted : Selection → List ℕ → (List ℕ → Type 0) → Type 0
+AllPrinted chosen file Took = (bytes : List ℕ) × PrintsText chosen file bytes × Took bytes
 
-module _ (l : Without) (file : List ℕ) (m : MovieSeen) (tree : FileTree) (head : MovieHead) (o : IsOpenedTold l.lead_ins file m tree) (says : SaysMovie m head) (scales : Scales) (are : AreScales (words_told l) file tree scales) where
+module _ (chosen : Selection) (file : List ℕ) (m : MovieSeen) (tree : FileTree) (head : MovieHead) (o : IsOpenedTold chosen.track chosen.leaving.lead_ins file m tree) (says : SaysMovie m head) (scales : Scales) (are : AreScales (words_told chosen.leaving) file tree scales) where
+  abbrev l : Without
+  l = chosen.leaving
+
   said : head_seen head ≡ head_of tree.movie
   said = (tree_said file m tree head o.opened says).says
 
@@ -62,19 +66,19 @@ module _ (l : Without) (file : List ℕ) (m : MovieSeen) (tree : FileTree) (head
 
   parts : whole ≡ front_lines l ++ (movie_part ++ (tracks_part ++ end))
   parts =
-      ap (λ (q : Presentation). front_lines l ++ text_of q) (sym (left_is l file m tree o))
+      ap (λ (q : Presentation). front_lines l ++ text_of q) (sym (left_is chosen file m tree o))
       ∙ ap (λ (bs : List ℕ). front_lines l ++ bs) (append_assoc (movie_lines (remaining (words_told l) (presentation_of file tree)).movie) tracks_part end)
       ∙ (λ i. front_lines l ++ (movie_lines (remaining_movie (words_told l) (sym are.movie i) (sym said i).movie) ++ (tracks_part ++ end)))
 
-  prints : PrintsText l file whole
-  prints = (o.p, judged_told l file m tree o, shown_limits l file m tree o, refl)
+  prints : PrintsText chosen file whole
+  prints = (o.p, shows_told chosen file m tree o, shown_limits chosen file m tree o, refl)
 
   module _ {Y : Type 0} {takes : Y → Y → List ℕ → Type 0} (joins : IsJoining takes) (a b c d e f : Y) (nothing : takes a a []) (held_b held_c held_d held_e : List ℕ) where
     begun : Going (takes a a) [] [] whole whole
     begun = going_none (takes a a) nothing [] whole
 
     -- the first lines
-    pub first_fails : TakesPrefix (takes a b) (front_lines l) → FrontPrinted l file (takes a b)
+    pub first_fails : TakesPrefix (takes a b) (front_lines l) → FrontPrinted chosen file (takes a b)
     first_fails q = (whole, prints, text_fails joins a a b [] [] whole whole begun (front_lines l) (movie_part ++ (tracks_part ++ end)) parts q)
 
     module _ (p : BytesGoOn (takes a b) [] held_b (front_lines l)) where
@@ -82,7 +86,7 @@ module _ (l : Without) (file : List ℕ) (m : MovieSeen) (tree : FileTree) (head
       one = text_next joins a a b [] [] whole whole begun held_b (front_lines l) (movie_part ++ (tracks_part ++ end)) parts p
 
       -- those of the movie
-      pub movie_fails : TakesPrefix (takes b c) (held_b ++ movie_part) → FrontPrinted l file (takes a c)
+      pub movie_fails : TakesPrefix (takes b c) (held_b ++ movie_part) → FrontPrinted chosen file (takes a c)
       movie_fails q = (whole, prints, text_fails joins a b c [] held_b (movie_part ++ (tracks_part ++ end)) whole one movie_part (tracks_part ++ end) refl q)
 
       module _ (q : BytesGoOn (takes b c) held_b held_c movie_part) where
@@ -90,7 +94,7 @@ module _ (l : Without) (file : List ℕ) (m : MovieSeen) (tree : FileTree) (head
         two = text_next joins a b c [] held_b (movie_part ++ (tracks_part ++ end)) whole one held_c movie_part (tracks_part ++ end) refl q
 
         -- those of the tracks
-        pub tracks_fail : TakesPrefix (takes c d) (held_c ++ tracks_part) → FrontPrinted l file (takes a d)
+        pub tracks_fail : TakesPrefix (takes c d) (held_c ++ tracks_part) → FrontPrinted chosen file (takes a d)
         tracks_fail r = (whole, prints, text_fails joins a c d [] held_c (tracks_part ++ end) whole two tracks_part end refl r)
 
         module _ (r : BytesGoOn (takes c d) held_c held_d tracks_part) where
@@ -98,7 +102,7 @@ module _ (l : Without) (file : List ℕ) (m : MovieSeen) (tree : FileTree) (head
           three = text_next joins a c d [] held_c (tracks_part ++ end) whole two held_d tracks_part end refl r
 
           -- the last line
-          pub last_fails : TakesPrefix (takes d e) (held_d ++ end) → FrontPrinted l file (takes a e)
+          pub last_fails : TakesPrefix (takes d e) (held_d ++ end) → FrontPrinted chosen file (takes a e)
           last_fails s = (whole, prints, text_fails joins a d e [] held_d end whole three end [] (sym (append-nil end)) s)
 
           module _ (s : BytesGoOn (takes d e) held_d held_e end) where
@@ -106,8 +110,8 @@ module _ (l : Without) (file : List ℕ) (m : MovieSeen) (tree : FileTree) (head
             four = text_next joins a d e [] held_d end whole three held_e end [] (sym (append-nil end)) s
 
             -- and what waits then
-            pub all_printed : takes e f held_e → AllPrinted l file (takes a f)
+            pub all_printed : takes e f held_e → AllPrinted chosen file (takes a f)
             all_printed t = (whole, prints, texts_put joins a e f held_e [] whole four refl t)
 
-            pub end_fails : TakesPrefix (takes e f) held_e → FrontPrinted l file (takes a f)
+            pub end_fails : TakesPrefix (takes e f) held_e → FrontPrinted chosen file (takes a f)
             end_fails t = (whole, prints, texts_not_put joins a e f held_e [] whole four refl t)

@@ -1,6 +1,6 @@
 -- What a run answers, from why its parts fail.
 use Rattle.std.proofs.Common.{◌≡◌, inl, inr, ℕ, List, refl, arith}
-use Rattle.std.specs.Prelude.{Bool, Result, Ok, Err, IfErr, OnOk, OnErr}
+use Rattle.std.specs.Prelude.{Bool, Option, Result, Ok, Err, IfErr, OnOk, OnErr}
 use Rattle.mp4_store.specs.words.Device.{count_after}
 use Rattle.mp4_boxes.specs.declared.fault.Fault.{Fault}
 use Rattle.mp4_boxes.specs.declared.refusal.Refusal.{Refusal}
@@ -12,6 +12,7 @@ use Rattle.mp4_content.specs.words.Opened.{RefusesPlan}
 use Rattle.mp4_plan.proofs.Judged.{first_fault_refuses}
 use Rattle.mp4_answers.specs.format.Answers.{IsFaultOf}
 use Rattle.mp4_answers.specs.format.Headline.{DenotesNothing}
+use Rattle.mp4_answers.specs.format.Selected.{LacksNamed}
 use Rattle.mp4_answers.specs.format.Told.{judge_told}
 use Rattle.mp4_answers.specs.words.OpenedTold.{RefusesTold}
 use Rattle.mp4_answers.specs.format.Run.{Run, Honest, PutsNothing, PutsAll, PutsFront, PutsAtOnce, Answered}
@@ -32,14 +33,14 @@ module _ (A : Type 0) (r : Run) (IsText : List ℕ → Type 0) (IsFault : Fault 
   open_fails refusals.WriteFailed i n w = absurd w
   open_fails refusals.NoSuchTrack i n w = absurd w
 
-  -- a file is not opened, or not told how long its tracks wait
-  pub told_fails : (b : Bool) (e : Refusal) → ((f : Fault) → judge_told b r.file ≡ Err f → IsFault f) → PutsNothing r → RefusesTold b r.honest r.file r.reads r.reads_after e → Answered {A = A} r IsText IsFault Lacks (Err e)
-  told_fails b (refusals.Fault f) i n w = (n, λ told. i f (w told))
-  told_fails b refusals.Memory i n w = n
-  told_fails b refusals.StoreFailed i n w = (w, λ told. inl n)
-  told_fails b refusals.StoreChanged i n w = w
-  told_fails b refusals.WriteFailed i n w = absurd w
-  told_fails b refusals.NoSuchTrack i n w = absurd w
+  -- a file is not opened, or not of the track that is named, or not told how long its tracks wait
+  pub told_fails : (track : Option ℕ) (b : Bool) (e : Refusal) → ((f : Fault) → judge_told track b r.file ≡ Err f → IsFault f) → (LacksNamed track r.honest r.file → Lacks) → PutsNothing r → RefusesTold track b r.honest r.file r.reads r.reads_after e → Answered {A = A} r IsText IsFault Lacks (Err e)
+  told_fails track b (refusals.Fault f) i lacks n w = (n, λ told. i f (w told))
+  told_fails track b refusals.Memory i lacks n w = n
+  told_fails track b refusals.StoreFailed i lacks n w = (w, λ told. inl n)
+  told_fails track b refusals.StoreChanged i lacks n w = w
+  told_fails track b refusals.WriteFailed i lacks n w = absurd w
+  told_fails track b refusals.NoSuchTrack i lacks n w = (n, lacks w)
 
   -- what its times are divided by is not found
   pub plan_fails : (e : Refusal) → PutsNothing r → RefusesPlan r.reads r.reads_after e → (Honest r → e ≡ refusals.StoreChanged → ⊥) → Answered {A = A} r IsText IsFault Lacks (Err e)

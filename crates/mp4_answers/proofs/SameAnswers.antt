@@ -17,12 +17,13 @@ use Rattle.mp4_content.proofs.LeadInsTold.{left_is_told}
 use Rattle.mp4_content.proofs.LeadInsValid.{told_is_valid}
 use Rattle.mp4_plan.specs.format.Normal.{normal}
 use Rattle.mp4_answers.specs.format.Told.{IsLeftInLimits}
-use Rattle.mp4_plan.proofs.Judged.{denoted_judged, judged_one, normal_judged}
+use Rattle.mp4_plan.proofs.Judged.{denoted_judged, normal_judged}
 use Rattle.mp4_plan.proofs.ReducedNormal.{reduced_normal_is_exact}
 use Rattle.mp4_present.proofs.DenotedOpens.{stands_refuses}
 use Rattle.mp4_answers.specs.format.SameAnswers.{AcceptedHasNoFault, NormalFormDenotesTheSame, NormalFormHasTheSameData, NormalFormListsTheSame, NormalFormShowsTheSame, SameIsSameBytes, SameStaysSame}
 use Rattle.mp4_answers.specs.format.Headline.{HasNormalForm}
 use Rattle.mp4_answers.specs.format.FileTexts.{IsTrackWith}
+use Rattle.mp4_answers.proofs.Alone.{shows_one, shows_valid}
 
 -- ---- verdicts
 
@@ -31,11 +32,12 @@ module _ (l : Without) (p : Presentation) (v : Valid p) (k : IsLeftInLimits l p)
   shown_valid = (told_is_valid l.lead_ins p v).1 k.shown
 
 pub same_is_same_bytes : SameIsSameBytes
-same_is_same_bytes l file other text other_text same x y is form other_form =
-    let p : form.0 ≡ is.p = judged_one file form.0 is.p form.1 is.first in
-    let q : other_form.0 ≡ is.q = judged_one other other_form.0 is.q other_form.1 is.second in
-    let v = shown_valid l form.0 (denoted_is_valid file form.0 x (judged_denotes file form.0 form.1)) form.2 in
-    let w = shown_valid l other_form.0 (denoted_is_valid other other_form.0 y (judged_denotes other other_form.0 other_form.1)) other_form.2 in
+same_is_same_bytes asked file other text other_text same x y is form other_form =
+    let l = asked.leaving in
+    let p : form.0 ≡ is.p = shows_one asked.first file form.0 is.p form.1 is.first in
+    let q : other_form.0 ≡ is.q = shows_one asked.second other other_form.0 is.q other_form.1 is.second in
+    let v = shown_valid l form.0 (shows_valid asked.first file form.0 x form.1) form.2 in
+    let w = shown_valid l other_form.0 (shows_valid asked.second other other_form.0 y other_form.1) other_form.2 in
     let a = left_is_told l form.0 in
     let b = left_is_told l other_form.0 in
     let exact = reduced_normal_is_exact (words_told l) (told l.lead_ins form.0) (told l.lead_ins other_form.0) v form.2.left w other_form.2.left in
@@ -76,12 +78,12 @@ module _ (l m : Without) (p q : Presentation) (v : Valid p) (w : Valid q) (c : C
   more_same (inr k) = begins l.lead_ins m.lead_ins refl refl k
 
 pub same_stays_same : SameStaysSame
-same_stays_same l m file other more x y c keeps is is_more =
-    let p : is.p ≡ is_more.p = judged_one file is.p is_more.p is.first is_more.first in
-    let q : is.q ≡ is_more.q = judged_one other is.q is_more.q is.second is_more.second in
-    let v = denoted_is_valid file is.p x (judged_denotes file is.p is.first) in
-    let w = denoted_is_valid other is.q y (judged_denotes other is.q is.second) in
-    (is_more.is x y).1 (sym (ap (left_of m) p) ∙ more_same l m is.p is.q v w c keeps ((is.is x y).0 refl) ∙ ap (left_of m) q)
+same_stays_same asked m file other more x y c keeps is is_more =
+    let p : is.p ≡ is_more.p = shows_one asked.first file is.p is_more.p is.first is_more.first in
+    let q : is.q ≡ is_more.q = shows_one asked.second other is.q is_more.q is.second is_more.second in
+    let v = shows_valid asked.first file is.p x is.first in
+    let w = shows_valid asked.second other is.q y is.second in
+    (is_more.is x y).1 (sym (ap (left_of m) p) ∙ more_same asked.leaving m is.p is.q v w c keeps ((is.is x y).0 refl) ∙ ap (left_of m) q)
 
 -- ---- the normal form
 

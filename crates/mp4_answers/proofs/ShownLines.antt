@@ -39,7 +39,7 @@ abbrev pub LieInFile : List ℕ → FileTree → TrackTree → Type 0
 LieInFile file tree t = AllByRecursion (IsInFile (length file)) (placed_of (file_parts tree) t)
 
 pub each_lies : (file : List ℕ) (m : MovieSeen) (tree : FileTree) → IsOpenedOwn file m tree → AllByRecursion (LieInFile file tree) tree.movie.tracks
-each_lies file m tree o = each_member (LieInFile file tree) tree.movie.tracks (λ t i. placed_lie file tree t o.opened.is_consistent i)
+each_lies file m tree o = each_member (LieInFile file tree) tree.movie.tracks (λ t i. placed_lie file tree t o.opened.hands_out i)
 
 -- the numbers of a track are those of the presentation's
 infos_of : (file : List ℕ) (tree : FileTree) (trees : List TrackTree) (infos : List TrackInfo) → AllByRecursion (LieInFile file tree) trees → AllZip (opened.IsInfoOf file tree) trees infos → AllZip IsInfoOf (map (track_of file (file_parts tree)) trees) infos

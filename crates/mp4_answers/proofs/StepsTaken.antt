@@ -1,12 +1,13 @@
 -- The steps of `normalise`, by what its parts promise.
-use Rattle.std.proofs.Common.{◌≡◌, inl, inr, ℕ, ◌+◌, ◌*◌, ◌≤◌, max, List, length, Some, refl, sym, ap, subst, ◌∙◌, arith}
-use Rattle.std.specs.Prelude.{Bool, true, false, ◌/◌, ◌||◌, ◌&&◌, not, if◌then◌else◌, Err, IsTrue, slice_get}
+use Rattle.std.proofs.Common.{◌≡◌, inl, inr, ℕ, ◌+◌, ◌*◌, ◌≤◌, max, List, length, Some, refl, sym, ap, subst, ◌∙◌, arith, mul-le-mul_left}
+use Rattle.std.specs.Prelude.{Bool, Option, true, false, ◌/◌, ◌||◌, ◌&&◌, not, if◌then◌else◌, Err, IsTrue, slice_get}
 use Rattle.mp4_head.specs.format.Tree.{TrackTree}
 use Rattle.mp4_boxes.specs.declared.refusal.Refusal.{Refusal}
 use Rattle.mp4_boxes.specs.declared.refusal.Refusal.TheVariants as refusals
 use Rattle.mp4_present.specs.format.Denotes.{Denotes, FileTree, IsFileTree, presentation_of}
 use Rattle.mp4_present.specs.format.Presentation.{Presentation, sample_total}
 use Rattle.mp4_present.specs.words.Movies.{MovieSeen}
+use Rattle.mp4_present.specs.words.OneTrack.{only_tree}
 use Rattle.mp4_present.specs.words.OpenedMovie.{IsOpenedOwn, IsOpenedAs}
 use Rattle.mp4_present.specs.words.Opening.{RefusesOpen}
 use Rattle.mp4_present.specs.format.ByBytes.{OpensWithin}
@@ -18,6 +19,8 @@ use Rattle.mp4_answers.specs.format.Steps.{StepsByTracks, WorksWithin, WalksWith
 use Rattle.mp4_answers.specs.words.OpenedTold.{IsOpenedTold, OpensWithinTold, told_steps}
 use Rattle.mp4_answers.specs.format.CompareHeadline.{ComparedWithin}
 use Rattle.mp4_answers.proofs.RunParts.{denotes_nothing}
+use Rattle.mp4_answers.specs.declared.selection.Selection.{Selection}
+use Rattle.mp4_answers.proofs.Alone.{fewer_walks, fewer_writes}
 use Rattle.mp4_answers.proofs.ShownLines.{denoted}
 use Rattle.mp4_content.specs.declared.without.Without.{Without}
 use Rattle.mp4_content.specs.words.Measuring.{measures, measuring_steps}
@@ -101,19 +104,24 @@ told_looks : (b : Bool) (file : List ℕ) (p : Presentation) (d : Denotes file p
 told_looks true file p d = walks_looks file p d
 told_looks false file p d = let all = opened_looks file p d in omega (arith, all)
 
--- a file that isn't told anything, or is, in the steps of opening it
-pub opening_told : (file : List ℕ) (m : MovieSeen) (tree : FileTree) (old new : ℕ) → IsOpenedOwn file m tree → ((t : FileTree) → IsFileTree file t → new ≤ old + opening_steps t) → OpensWithinTold false file old new
-opening_told file m tree old new o opening = record {
+-- a file that is opened, but not of the track that is named
+pub opening_alone : (b : Bool) (file : List ℕ) (m : MovieSeen) (tree : FileTree) (old new : ℕ) → IsOpenedOwn file m tree → ((t : FileTree) → IsFileTree file t → new ≤ old + opening_steps t) → OpensWithinTold b file old new
+opening_alone b file m tree old new o opening = record {
   denoted = λ p d. let own = opening d.tree d.is_tree in omega (arith, own);
   refused = λ nothing. absurd (nothing (presentation_of file tree) (denoted file m tree o));
 }
 
-pub walks_told_within : (file : List ℕ) (m : MovieSeen) (tree : FileTree) (old behind new : ℕ) → IsOpenedOwn file m tree → ((t : FileTree) → IsFileTree file t → behind ≤ old + opening_steps t) → new ≤ behind + walks_steps tree → OpensWithinTold true file old new
-walks_told_within file m tree old behind new o opening walks = record {
+-- a file that isn't told anything, or is, in the steps of opening it
+pub opening_told : (file : List ℕ) (m : MovieSeen) (tree : FileTree) (old new : ℕ) → IsOpenedOwn file m tree → ((t : FileTree) → IsFileTree file t → new ≤ old + opening_steps t) → OpensWithinTold false file old new
+opening_told = opening_alone false
+
+pub walks_told_within : (only : Option ℕ) (file : List ℕ) (m : MovieSeen) (tree : FileTree) (old behind new : ℕ) → IsOpenedOwn file m tree → ((t : FileTree) → IsFileTree file t → behind ≤ old + opening_steps t) → new ≤ behind + walks_steps (only_tree only tree) → OpensWithinTold true file old new
+walks_told_within only file m tree old behind new o opening walks = record {
   denoted = λ p d.
       let same = ap walks_steps (file_tree_one file tree d.tree (file_tree_is file m tree o) d.is_tree) in
       let own = opening d.tree d.is_tree in
-      omega (arith, own, walks, same);
+      let few = fewer_walks only tree in
+      omega (arith, own, walks, same, few);
   refused = λ nothing. absurd (nothing (presentation_of file tree) (denoted file m tree o));
 }
 
@@ -141,12 +149,27 @@ not_told b file old new honest reads reads_after refusals.StoreChanged told refu
 not_told b file old new honest reads reads_after refusals.WriteFailed told refuses work within = opened_only b file old new work within
 not_told b file old new honest reads reads_after refusals.NoSuchTrack told refuses work within = opened_only b file old new work within
 
--- the walks over it are as many as over the file's own boxes
-pub walks_here : (b : Bool) (file : List ℕ) (m : MovieSeen) (tree : FileTree) (o : IsOpenedTold b file m tree) (p : Presentation) (d : Denotes file p) → walks_steps tree ≡ walks_steps d.tree
-walks_here b file m tree o p d = walks_told m.waits o.denotes.tree tree o.is_told ∙ ap walks_steps (file_tree_one file o.denotes.tree d.tree o.denotes.is_tree d.is_tree)
+-- the walks over it are no more than over the file's own boxes
+pub walks_here : (track : Option ℕ) (b : Bool) (file : List ℕ) (m : MovieSeen) (tree : FileTree) (o : IsOpenedTold track b file m tree) (p : Presentation) (d : Denotes file p) → walks_steps tree ≤ walks_steps d.tree
+walks_here track b file m tree o p d =
+    let told = walks_told m.waits (only_tree m.only o.denotes.tree) tree o.is_told in
+    let few = fewer_walks m.only o.denotes.tree in
+    let one = ap walks_steps (file_tree_one file o.denotes.tree d.tree o.denotes.is_tree d.is_tree) in
+    omega (arith, told, few, one)
 
-writes_here : (b : Bool) (file : List ℕ) (m : MovieSeen) (tree : FileTree) (o : IsOpenedTold b file m tree) (p : Presentation) (d : Denotes file p) → writing_steps tree ≡ writing_steps d.tree
-writes_here b file m tree o p d = writes_told m.waits o.denotes.tree tree o.is_told ∙ ap writing_steps (file_tree_one file o.denotes.tree d.tree o.denotes.is_tree d.is_tree)
+writes_here : (track : Option ℕ) (b : Bool) (file : List ℕ) (m : MovieSeen) (tree : FileTree) (o : IsOpenedTold track b file m tree) (p : Presentation) (d : Denotes file p) → writing_steps tree ≤ writing_steps d.tree
+writes_here track b file m tree o p d =
+    let told = writes_told m.waits (only_tree m.only o.denotes.tree) tree o.is_told in
+    let few = fewer_writes m.only o.denotes.tree in
+    let one = ap writing_steps (file_tree_one file o.denotes.tree d.tree o.denotes.is_tree d.is_tree) in
+    omega (arith, told, few, one)
+
+-- so many walks are no more either
+no_more : (u v : Bool) (a b : ℕ) → a ≤ b → (if u then a else 0) + (if v then a else 0) + a ≤ (if u then b else 0) + (if v then b else 0) + b
+no_more true true a b le = omega (arith, le)
+no_more true false a b le = omega (arith, le)
+no_more false true a b le = omega (arith, le)
+no_more false false a b le = omega (arith, le)
 
 -- where it isn't opened, walks over all tracks would be allowed
 pub not_opened : (l : Without) (file : List ℕ) (old new : ℕ) → OpensWithinTold l.lead_ins file old new → WorksWithin l file old new
@@ -160,19 +183,21 @@ not_opened l file old new h = record {
 }
 
 -- a movie that is planned and written
-pub written_within : (l : Without) (file : List ℕ) (m : MovieSeen) (old behind new : ℕ) → ((tree : FileTree) × IsOpenedTold l.lead_ins file m tree) → OpensWithinTold l.lead_ins file old behind
-    → ((tree : FileTree) → IsOpenedAs file m tree → new ≤ behind + (measuring_steps (words_told l) tree + walks_steps tree + writing_steps tree)) → WorksWithin l file old new
-written_within l file m old behind new (tree, o) opening write = record {
+pub written_within : (s : Selection) (file : List ℕ) (m : MovieSeen) (old behind new : ℕ) → ((tree : FileTree) × IsOpenedTold s.track s.leaving.lead_ins file m tree) → OpensWithinTold s.leaving.lead_ins file old behind
+    → ((tree : FileTree) → IsOpenedAs file m tree → new ≤ behind + (measuring_steps (words_told s.leaving) tree + walks_steps tree + writing_steps tree)) → WorksWithin s.leaving file old new
+written_within s file m old behind new (tree, o) opening write = record {
   few = λ p d.
-      let ways = walks_here l.lead_ins file m tree o p d in
-      let puts = writes_here l.lead_ins file m tree o p d in
-      let work = subst (λ n. new ≤ behind + ((if l.timescales then n else 0) + (if measures (words_told l) then n else 0) + n + writing_steps tree)) ways (write tree o.opened) in
+      let ways = walks_here s.track s.leaving.lead_ins file m tree o p d in
+      let puts = writes_here s.track s.leaving.lead_ins file m tree o p d in
+      let work = write tree o.opened in
+      let more = no_more s.leaving.timescales (measures (words_told s.leaving)) (walks_steps tree) (walks_steps d.tree) ways in
       let opened = opening.denoted p d in
       let all = subst (λ k.
-      opening_steps d.tree + ((if l.lead_ins then walks_steps d.tree else 0) + (if l.timescales then walks_steps d.tree else 0) + (if measures (words_told l) then walks_steps d.tree else 0) + walks_steps d.tree + writing_steps d.tree) ≤ k * (sample_total p + row_total d.tree)) (each_is l)
-      (all_within l.lead_ins l.timescales (measures (words_told l)) file p d) in
-      omega (arith, opened, work, puts, all);
-  refused = λ nothing. absurd (nothing o.p o.denotes);
+      opening_steps d.tree + ((if s.leaving.lead_ins then walks_steps d.tree else 0) + (if s.leaving.timescales then walks_steps d.tree else 0) + (if measures (words_told s.leaving) then walks_steps d.tree else 0) + walks_steps d.tree + writing_steps d.tree) ≤ k *
+      (sample_total p + row_total d.tree)) (each_is s.leaving)
+      (all_within s.leaving.lead_ins s.leaving.timescales (measures (words_told s.leaving)) file p d) in
+      omega (arith, opened, work, more, puts, all);
+  refused = λ nothing. absurd (nothing o.whole o.denotes);
 }
 
 -- ---- a file that is printed or compared
@@ -195,16 +220,16 @@ telling_is true n times = omega arith
 telling_is false n times = omega arith
 
 -- a file that is opened, and of which each track is walked over at most as many times as may be
-pub often_walked : (b : Bool) (times : ℕ) (file : List ℕ) (m : MovieSeen) (tree : FileTree) (old behind new : ℕ) → IsOpenedTold b file m tree → OpensWithinTold b file old behind → new ≤ behind + times * walks_steps tree → ComparedWithin ((if b then 1 else 0) + times) file old new
-often_walked b times file m tree old behind new o opening walks = record {
+pub often_walked : (track : Option ℕ) (b : Bool) (times : ℕ) (file : List ℕ) (m : MovieSeen) (tree : FileTree) (old behind new : ℕ) → IsOpenedTold track b file m tree → OpensWithinTold b file old behind → new ≤ behind + times * walks_steps tree
+    → ComparedWithin ((if b then 1 else 0) + times) file old new
+often_walked track b times file m tree old behind new o opening walks = record {
   denoted = λ p d.
-      let ways = walks_here b file m tree o p d in
-      let work = subst (λ n. new ≤ behind + times * n) ways walks in
+      let ways = mul-le-mul_left times (walks_here track b file m tree o p d) in
       let opened = opening.denoted p d in
       let joined = telling_is b (walks_steps d.tree) times in
       let all = each_looks ((if b then 1 else 0) + times) file p d in
-      omega (arith, opened, work, joined, all);
-  refused = λ nothing. absurd (nothing o.p o.denotes);
+      omega (arith, opened, walks, ways, joined, all);
+  refused = λ nothing. absurd (nothing o.whole o.denotes);
 }
 
 pub looked_prints : (l : Without) (file : List ℕ) (old new : ℕ) → OpensWithinTold l.lead_ins file old new → PrintsWithin l file old new
@@ -216,10 +241,12 @@ printing_is u true n = omega arith
 printing_is u false n = omega arith
 
 -- it is opened, what its times are divided by is found, and each track is walked over
-pub printed_within : (l : Without) (file : List ℕ) (m : MovieSeen) (tree : FileTree) (old behind mid new : ℕ) → IsOpenedTold l.lead_ins file m tree → OpensWithinTold l.lead_ins file old behind → mid ≤ behind + scaling_steps l tree → new ≤ mid + walks_steps tree → PrintsWithin l file old new
-printed_within l file m tree old behind mid new o opening scaled walks =
+pub printed_within : (s : Selection) (file : List ℕ) (m : MovieSeen) (tree : FileTree) (old behind mid new : ℕ) → IsOpenedTold s.track s.leaving.lead_ins file m tree → OpensWithinTold s.leaving.lead_ins file old behind → mid ≤ behind + scaling_steps s.leaving tree
+    → new ≤ mid + walks_steps tree → PrintsWithin s.leaving file old new
+printed_within s file m tree old behind mid new o opening scaled walks =
+    let l = s.leaving in
     let joined = printing_is l.lead_ins l.timescales (walks_steps tree) in
-    let c = often_walked l.lead_ins (1 + (if l.timescales then 1 else 0)) file m tree old behind new o opening (omega (arith, scaled, walks, joined)) in
+    let c = often_walked s.track l.lead_ins (1 + (if l.timescales then 1 else 0)) file m tree old behind new o opening (omega (arith, scaled, walks, joined)) in
     let many : (if l.lead_ins then 1 else 0) + (1 + (if l.timescales then 1 else 0)) ≡ 1 + more_walks l = omega arith in
     record { denoted = λ p d. subst (λ k. new ≤ old + walked_each k * (sample_total p + row_total d.tree)) many (c.denoted p d); refused = c.refused }
 

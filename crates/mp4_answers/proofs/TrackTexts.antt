@@ -16,7 +16,8 @@ use Rattle.mp4_present.specs.format.Presentation.{Track}
 use Rattle.mp4_present.specs.declared.track_info.TrackInfo.{TrackInfo}
 use Rattle.mp4_tables.proofs.SampleLists.{timed_length}
 use Rattle.mp4_present.proofs.SamplesLie.{all_whole, timed_data}
-use Rattle.mp4_answers.specs.format.FileTexts.{AreOthers, LacksTrack, IsTrackWith, ListsSamples, HasData}
+use Rattle.mp4_answers.specs.format.FileTexts.{IsTrackWith, ListsSamples, HasData}
+use Rattle.mp4_answers.specs.format.Selected.{AreOthers, LacksTrack}
 use Rattle.mp4_answers.specs.declared.jobs.Form.{Form}
 use Rattle.mp4_answers.specs.format.Texts.{listing_head, sample_at_lines}
 use Rattle.mp4_answers.proofs.SampleTexts.{lines_of_placed}
@@ -25,7 +26,7 @@ use Rattle.mp4_answers.proofs.ShownLines.{LieInFile, each_lies, judged}
 -- ---- the track with an ID
 
 -- the tree at the place of the numbers
-got_track : (file : List ℕ) (tree : FileTree) (trees : List TrackTree) (infos : List TrackInfo) (k id : ℕ) → AllZip (IsInfoOf file tree) trees infos → k < length infos → IfSome (slice_get infos k) (λ i. i.id ≡ id)
+pub got_track : (file : List ℕ) (tree : FileTree) (trees : List TrackTree) (infos : List TrackInfo) (k id : ℕ) → AllZip (IsInfoOf file tree) trees infos → k < length infos → IfSome (slice_get infos k) (λ i. i.id ≡ id)
     → (t : TrackTree) × (slice_get trees k ≡ Some t) × ((track_head_of t).id ≡ id)
 got_track file tree [] [] k id z lt e = absurd (omega (arith, lt))
 got_track file tree [] (x ∷ infos) k id z lt e = absurd z
@@ -62,7 +63,7 @@ track_found file m tree k id o lt e =
     below samples all placed n a b e f = omega (arith, a, b, e, f)
 
 -- the IDs of the numbers are those of the presentation's tracks
-ids_are : (file : List ℕ) (tree : FileTree) (trees : List TrackTree) (infos : List TrackInfo) → AllZip (IsInfoOf file tree) trees infos
+pub ids_are : (file : List ℕ) (tree : FileTree) (trees : List TrackTree) (infos : List TrackInfo) → AllZip (IsInfoOf file tree) trees infos
     → map (λ (i : TrackInfo). i.id) infos ≡ map (λ (h : TrackHead). h.id) (map (λ (u : Track). u.head) (map (track_of file (file_parts tree)) trees))
 ids_are file tree [] [] z = refl
 ids_are file tree [] (x ∷ infos) z = absurd z

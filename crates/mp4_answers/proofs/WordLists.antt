@@ -11,7 +11,7 @@ use Rattle.mp4_content.specs.format.ReducedLaws.{both, nothing}
 use Rattle.mp4_content.specs.format.Words.{all_words, each, has, word_name, word_number}
 use Rattle.mp4_content.proofs.Words.{by_words, each_has, same_number}
 use Rattle.mp4_answers.specs.format.LastLine.{leaving_text, words_text}
-use Rattle.mp4_answers.specs.format.WordLists.{also, is_listed, meant_by, media, media_2, named_in, only_these, packaging, packaging_2, put_first, word_meant, words_of, words_meant, leaving_of, IsCut, ListsLeaveOut, WordsReadBack}
+use Rattle.mp4_answers.specs.format.WordLists.{also, is_listed, meant_by, media_1, media_2, named_in, only_these, packaging_1, packaging_2, put_first, word_meant, words_of, words_meant, leaving_of, IsCut, ListsLeaveOut, WordsReadBack}
 use Rattle.mp4_boxes.proofs.Plain.{and_false, or_false, or_is_false}
 
 -- ---- words between commas
@@ -185,12 +185,12 @@ some_left w ws is e =
     let none : true ≡ false = sym is ∙ sym (each_has (is_listed ws) w) ∙ ap (λ (x : Without). has x w) e ∙ each_has (λ v. false) w in
     absurd cc
 
-none_meant : (o : Option Word) (a b c d : Bool) → meant_by o (if a then Some packaging else if b then Some media else if c then Some packaging_2 else if d then Some media_2 else None) ≡ Some nothing → ⊥
+none_meant : (o : Option Word) (a b c d : Bool) → meant_by o (if a then Some packaging_1 else if b then Some media_1 else if c then Some packaging_2 else if d then Some media_2 else None) ≡ Some nothing → ⊥
 none_meant (Some w) a b c d e =
     let same : only_these (w ∷ []) ≡ nothing = cc in
     some_left w (w ∷ []) (ap (λ b. b || false) (eq-eqb (word_number w) (word_number w) refl)) same
-none_meant None true b c d e = let same : only_these packaging ≡ nothing = cc in some_left words.Times packaging refl same
-none_meant None false true c d e = let same : only_these media ≡ nothing = cc in some_left words.Times media refl same
+none_meant None true b c d e = let same : only_these packaging_1 ≡ nothing = cc in some_left words.Times packaging_1 refl same
+none_meant None false true c d e = let same : only_these media_1 ≡ nothing = cc in some_left words.Times media_1 refl same
 none_meant None false false true d e = let same : only_these packaging_2 ≡ nothing = cc in some_left words.Times packaging_2 refl same
 none_meant None false false false true e = let same : only_these media_2 ≡ nothing = cc in some_left words.Times media_2 refl same
 none_meant None false false false false e = absurd cc

@@ -9,6 +9,7 @@ pub mod StripLaws
 pub mod StripCounts
 pub mod Losses
 pub mod BoxWalk
+pub mod Selected
 pub mod Told
 pub mod ReducedHeadline
 pub mod DifferenceLine

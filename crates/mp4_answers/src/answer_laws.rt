@@ -1,7 +1,7 @@
 //! Laws of what the commands answer, taken together.
 ghost use Rattle.mp4_answers.specs.format.OneTextLaws.{StripIsOne, ListOfBoxesIsOne, JudgedTextsAreOne};
 ghost use Rattle.mp4_answers.specs.format.Steps.{StepsByTracks};
-ghost use Rattle.mp4_answers.specs.format.SameAnswers.{AcceptedHasNoFault, FaultIsJudged, LeftFaultIsOne, LeftFaultRefuses, NormalFormDenotesTheSame, NormalFormHasTheSameData, NormalFormListsTheSame, NormalFormShowsTheSame, SameIsSameBytes, SameStaysSame, ToldIsJudged, UntoldIsJudged};
+ghost use Rattle.mp4_answers.specs.format.SameAnswers.{AcceptedHasNoFault, FaultIsJudged, LeftFaultIsOne, LeftFaultRefuses, NormalFormDenotesTheSame, NormalFormHasTheSameData, NormalFormListsTheSame, NormalFormShowsTheSame, OneTrackIsWhole, SameIsSameBytes, SameStaysSame, ShownIsValid, ToldIsJudged, UntoldIsJudged};
 
 /// `compare --without` says that two files are the same exactly if `normalise --without` of both
 /// gives the same bytes, where both are not too long.
@@ -40,20 +40,31 @@ pub fn accepted_has_no_fault()
     ensures { AcceptedHasNoFault }
 {}
 
-/// A file that isn't told how long its tracks wait is judged as it is.
+/// A file of which all is looked at, and that isn't told how long its tracks wait, is judged as it
+/// is.
 pub fn untold_is_judged()
     ensures { UntoldIsJudged }
 {}
 
-/// A fault of a file is its fault too as it is told.
+/// A fault of a file is its fault too as it is told, and of each of its tracks.
 pub fn fault_is_judged()
     ensures { FaultIsJudged }
 {}
 
-/// A file that has none and is told so is judged to be what it shows then, if that is within the
-/// limits.
+/// What is looked at of a file that has none, and is told so, is what it is judged to be then, if
+/// that is within the limits.
 pub fn told_is_judged()
     ensures { ToldIsJudged }
+{}
+
+/// What is looked at of a file is valid: all of it, or one track.
+pub fn shown_is_valid()
+    ensures { ShownIsValid }
+{}
+
+/// What has one track is the same with that alone.
+pub fn one_track_is_whole()
+    ensures { OneTrackIsWhole }
 {}
 
 /// Where a fault is named of what is left of a file, that has no normal form.

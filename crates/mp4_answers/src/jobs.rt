@@ -1,6 +1,6 @@
 //! What is done over a file, and how the answer is written.
 use crate::box_names::Name;
-use mp4_content::Without;
+use crate::selection::Selection;
 
 /// How the samples of a track are listed: a line each, the same behind the names of the columns, or
 /// an object of JSON each.
@@ -36,10 +36,10 @@ pub enum Job<'a> {
     Samples { track: u32, form: Form },
     Extract { track: u32 },
     Normalise,
-    /// The normal form of what is left.
-    Reduce { leaving: Without },
-    /// The text of what is left.
-    Print { leaving: Without },
+    /// The normal form of what is left of what is selected.
+    Reduce { selection: Selection },
+    /// The text of it.
+    Print { selection: Selection },
     Strip { names: &'a [Name] },
 }
 

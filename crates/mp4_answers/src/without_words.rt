@@ -30,7 +30,7 @@ pub(crate) const TAKEN: &[Word] = &[
 
 // The words of `packaging-1`: what changes when a file is packed another way. They never change, so
 // that sums which were made with them stay right: other words are `packaging-2`.
-const PACKAGING: &[Word] = &[
+const PACKAGING_1: &[Word] = &[
     Word::Times,
     Word::Edits,
     Word::Flags,
@@ -43,7 +43,7 @@ const PACKAGING: &[Word] = &[
 
 // The words of `media-1`: all that there were with it. They never change either, whatever words
 // come.
-const MEDIA: &[Word] = &[
+const MEDIA_1: &[Word] = &[
     Word::Times,
     Word::Edits,
     Word::Flags,
@@ -161,10 +161,10 @@ fn set_named(name: &[u8]) -> Option<&'static [Word]>
     ensures { option_map (λ words. words.now) result ≡ set_named name.now }
 {
     if name == b"packaging-1".as_slice() {
-        return Some(PACKAGING);
+        return Some(PACKAGING_1);
     }
     if name == b"media-1".as_slice() {
-        return Some(MEDIA);
+        return Some(MEDIA_1);
     }
     if name == b"packaging-2".as_slice() {
         return Some(PACKAGING_2);

@@ -238,7 +238,7 @@ samples_of file tree t h lie =
 pub opened_samples : (file : List ℕ) (m : MovieSeen) (tree : FileTree) (t : TrackTree) (k : ℕ) → IsOpenedAs file m tree → slice_get tree.movie.tracks k ≡ Some t → AllByRecursion (IsSampleOf file (track_keys tree t)) (placed_of (file_parts tree) t)
 opened_samples file m tree t k o is =
     let Lie : TrackTree → Type 0 = λ u. AllByRecursion (IsInFile (length file)) (placed_of (file_parts tree) u) in
-    let lie = get_every Lie tree.movie.tracks k t is (each_member Lie tree.movie.tracks (λ u i. placed_lie file tree u o.is_consistent i)) in
+    let lie = get_every Lie tree.movie.tracks k t is (each_member Lie tree.movie.tracks (λ u i. placed_lie file tree u o.hands_out i)) in
     samples_of file tree t (get_every (IsTrackPlaced tree) tree.movie.tracks k t is (opened_placed file m tree o)) lie
 
 -- the keys that are kept of a track are its own

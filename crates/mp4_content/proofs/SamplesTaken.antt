@@ -70,4 +70,4 @@ pub tracks_taken : (file : List ℕ) (m : MovieSeen) (tree : FileTree) → IsOpe
 tracks_taken file m tree o =
     turned (IsInfoOf file tree) (IsTrackTaken file tree) tree.movie.tracks m.tracks
     (each_member (λ (t : TrackTree). (info : TrackInfo) → IsInfoOf file tree t info → IsTrackTaken file tree info t) tree.movie.tracks
-    (λ t i info h. taken_of file tree t info (placed_lie file tree t o.is_consistent i) (track_is_placed file m tree o t i) h)) o.tracks
+    (λ t i info h. taken_of file tree t info (placed_lie file tree t o.hands_out i) (track_is_placed file m tree o t i) h)) o.tracks

@@ -14,6 +14,7 @@ use Rattle.mp4_head.proofs.TreeBytes.{movie_of_bytes}
 use Rattle.mp4_head.proofs.ValidHead.{movie_head_valid}
 use Rattle.mp4_present.specs.format.Denotes.{FileTree, file_parts, placed_of, sample_of, track_of}
 use Rattle.mp4_present.specs.words.Movies.{MovieSeen}
+use Rattle.mp4_present.specs.words.OneTrack.{only_tree}
 use Rattle.mp4_present.specs.words.OpenedMovie.{IsInfoOf, IsOpenedAs, IsShownOf, IsTreeOf}
 use Rattle.mp4_present.specs.words.SamplesComing.{track_samples}
 use Rattle.mp4_present.specs.words.ToldTrees.{IsTold}
@@ -171,13 +172,19 @@ all_behind (x ∷ found) b h e = (h.0, all_behind found b h.1 e)
 -- its timescale is above 0, where its tracks wait too
 pub movie_scale : (file : List ℕ) (m : MovieSeen) (tree : FileTree) → IsOpenedAs file m tree → 0 < (movie_head_of tree.movie).timescale
 unfolding IsShownOf
-movie_scale file m tree o = by m.waits o.shown.0 o.shown.1 o.shown.2
+movie_scale file m tree o = by m.waits o.shown.2
   where
-    by : (w : Option (List ℕ)) (own : FileTree) → IsTreeOf file own → IsTold w own tree → 0 < (movie_head_of tree.movie).timescale
-    by None own is e =
-        let valid = movie_head_valid own.movie (movie_of_bytes own.movie is.bytes.moov is.is_tree.movie) is.is_tree.movie is.is_sound.movie in
-        subst (λ (x : FileTree). 0 < (movie_head_of x.movie).timescale) (sym e) valid.timescale_not_0
-    by (Some waits) own is told = let scale = ap (λ (h : heads.MovieHead). h.timescale) told.movie.head in omega (arith, scale)
+    own : FileTree
+    own = o.shown.0
+
+    valid : 0 < (movie_head_of own.movie).timescale
+    valid =
+        let is : IsTreeOf file own = o.shown.1 in
+        (movie_head_valid own.movie (movie_of_bytes own.movie is.bytes.moov is.is_tree.movie) is.is_tree.movie is.is_sound.movie).timescale_not_0
+
+    by : (w : Option (List ℕ)) → IsTold w (only_tree m.only own) tree → 0 < (movie_head_of tree.movie).timescale
+    by None e = subst (λ (x : FileTree). 0 < (movie_head_of x.movie).timescale) (sym e) valid
+    by (Some waits) told = let scale = ap (λ (h : heads.MovieHead). h.timescale) told.movie.head in omega (arith, scale)
 
 -- each lasts no longer than an edit can
 pub all_fit : (s : ℕ) (first : Beginning) (found : List (Option Beginning)) → AllByRecursion (λ n. n < 2 ^ 64) (map (later_than s first) found)

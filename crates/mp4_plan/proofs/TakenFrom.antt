@@ -69,7 +69,7 @@ pub track_facts : (file : List ℕ) (m : MovieSeen) (tree : FileTree) → IsOpen
 track_facts file m tree o =
     turned (IsInfoOf file tree) (TrackFacts file tree) tree.movie.tracks m.tracks
     (each_member (λ (t : TrackTree). (info : TrackInfo) → IsInfoOf file tree t info → TrackFacts file tree info t) tree.movie.tracks
-    (λ t i info h. facts_of file tree t info (placed_lie file tree t o.is_consistent i) (track_is_placed file m tree o t i) h)) o.tracks
+    (λ t i info h. facts_of file tree t info (placed_lie file tree t o.hands_out i) (track_is_placed file m tree o t i) h)) o.tracks
 
 -- and of the track at a place
 pub track_facts_at : (file : List ℕ) (m : MovieSeen) (tree : FileTree) (k : ℕ) (info : TrackInfo) (t : TrackTree) → IsOpenedAs file m tree

@@ -36,6 +36,7 @@ use Rattle.mp4_present.specs.declared.opening.outline.Outline.{Outline}
 use Rattle.mp4_present.specs.declared.opening.tables_pass.PlainTracks.{PlainTracks}
 use Rattle.mp4_present.specs.declared.track_info.TrackInfo.{TrackInfo}
 use Rattle.mp4_present.proofs.MoofBehind.{begins_behind}
+use Rattle.mp4_present.proofs.MoofSound.{can_hand_out}
 use Rattle.mp4_present.proofs.SampleTotals.{few_samples}
 use Rattle.mp4_present.proofs.Opened.{IsRead, its_moov, tracks_read}
 use Rattle.mp4_frag.proofs.RunsTied.{duration-append}
@@ -260,14 +261,13 @@ module _ (honest : Bool) (file : List ℕ) (o : Outline) (moov : List ℕ) (b : 
         shown = shown_own file tree (record { is_tree = is_file_tree; is_sound = is_sound_file; is_consistent = is_consistent_file; bytes = record { moov = begin.bytes; moofs = p.bytes } });
         is_tree = read_tree file tree is_file_tree;
         is_sound = read_sound file tree is_file_tree is_sound_file;
-        is_consistent = is_consistent_file;
+        hands_out = can_hand_out file tree is_consistent_file found.plain.states.items kept.states;
         limits = record { samples = few_samples file tree states p.room begin.movie_is p.behind; times = times; moov = short };
         whole = e;
         moov = sym r.is ∙ sym says.has.is_moov;
         longest_is = k.3.longest;
         tables = kept.tables;
         states = kept.states;
-        room = kept.room;
         tracks = all_infos file tree (presentation_of file tree).movie.timescale says.has.tree.tracks head.tracks.items states found.tracks.items tracks_are p.behind.seen times infos;
         own = own;
         mehd = longest;

@@ -33,7 +33,7 @@ use Rattle.mp4_present.specs.words.Reading.{RefusesRead}
 use Rattle.mp4_present.specs.words.TopJudged.{RefusesTop}
 use Rattle.mp4_present.specs.declared.opening.outline.Outline.{Outline}
 use Rattle.mp4_present.proofs.BoxesJudged.{top_are}
-use Rattle.mp4_present.proofs.LimitsJudged.{limits_fine, limits_first}
+use Rattle.mp4_present.proofs.LimitsJudged.{limits_fine, limits_first, read_named}
 use Rattle.mp4_present.proofs.MovieJudged.{movie_is}
 use Rattle.mp4_present.proofs.Opened.{IsRead, its_moov, tracks_read}
 use Rattle.mp4_present.proofs.FirstKept.{first_kept}
@@ -205,11 +205,11 @@ module _ (honest : Bool) (file : List ℕ) (o : Outline) (moov : List ℕ) (b : 
 
         -- a limit is passed
         pub limit_refused : (f : Fault) → LimitFails (presentation_of file its_tree) head b f → judge file ≡ Err f
-        limit_refused f q = limits_fail file boxes top_is movie head_there tables p.passed.fragments (moofs_are ∙ p.judged) f (limits_first file its_tree head (tracks_read b head says) b f says.has.is_moov q)
+        limit_refused f q = limits_fail file boxes top_is movie head_there tables p.passed.fragments (moofs_are ∙ p.judged) f (limits_first its_tree (presentation_of file its_tree) head (read_named its_tree.movie.tracks head.tracks.items (tracks_read b head says)) b f says.has.is_moov q)
 
         -- it denotes this
         pub judged_as : AllByRecursion (IsInTime (presentation_of file its_tree).movie.timescale) (presentation_of file its_tree).tracks → normal_moov_length (presentation_of file its_tree) ≤ max_moov → judge file ≡ Ok (presentation_of file its_tree)
-        judged_as times short = none_fails file boxes top_is movie head_there tables p.passed.fragments (moofs_are ∙ p.judged) (limits_fine file its_tree head (tracks_read b head says) times short)
+        judged_as times short = none_fails file boxes top_is movie head_there tables p.passed.fragments (moofs_are ∙ p.judged) (limits_fine its_tree (presentation_of file its_tree) times short)
 
 -- ---- what names no fault
 

@@ -100,6 +100,8 @@ pub mod TracksFound
 pub mod NotedTracks
 pub mod Changed
 pub mod TellingWaits
+pub mod ShownAt
 pub mod ToldTrees
+pub mod OneTrack
 pub mod WaitsMeasured
 pub mod WaitsTold

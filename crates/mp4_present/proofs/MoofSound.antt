@@ -1,4 +1,4 @@
--- Each `moof` of an opened file is sound by the tracks as they are behind their tables, which a movie keeps.
+-- Each `moof` of an opened file is sound by what was known of its tracks: as they are behind their tables.
 use Rattle.std.proofs.Common.{◌≡◌, ℕ, ◌^◌, ◌<◌, ◌==◌, Bool, true, false, cond, List, [], ◌∷◌, ◌++◌, Some, None, length, map, refl, sym, ap, subst, ◌∙◌}
 use Rattle.std.specs.Prelude.{find, option_map, unwrap_or, is_some, IsTrue}
 use Rattle.std.specs.List.{AllByRecursion}
@@ -15,10 +15,10 @@ use Rattle.mp4_frag.specs.words.Walks.{trex_among}
 use Rattle.mp4_frag.specs.declared.state.TrackState.{TrackState}
 use Rattle.mp4_frag.specs.declared.trex.Trex.{Trex}
 use Rattle.mp4_head.specs.format.Tree.{TrackTree, track_head_of, trexes_of}
-use Rattle.mp4_present.specs.format.Denotes.{FileTree, IsSoundFragment, track_infos, file_parts, parts_of_track, plain_keys}
+use Rattle.mp4_present.specs.format.Denotes.{FileTree, IsConsistent, IsSoundFragment, track_infos, file_parts, parts_of_track, plain_keys}
 use Rattle.mp4_present.specs.words.Passing.{parts_behind}
 use Rattle.mp4_present.specs.words.Movies.{MovieSeen}
-use Rattle.mp4_present.specs.words.OpenedMovie.{IsOpenedAs, plain_seen}
+use Rattle.mp4_present.specs.words.OpenedMovie.{CanHandOut, IsOpenedAs, plain_seen}
 use Rattle.mp4_present.proofs.DueBehind.{parts_more}
 use Rattle.mp4_boxes.proofs.Each.{each_weaker as each_turned}
 
@@ -96,6 +96,33 @@ all_grouped tracks [] known h = tt
 all_grouped tracks (part ∷ parts) known h =
     (first_grouped part parts tracks known.0 h, all_grouped tracks parts known.1 (each_turned (GroupedFor (part ∷ parts)) (GroupedFor parts) (others_grouped part parts) tracks h))
 
+-- ---- all `traf`s of a file
+
+module _ (file : List ℕ) (tree : FileTree) (c : IsConsistent file tree) where
+  known_both : (part : Part) → IsTrue (is_known (track_infos tree.movie) (trexes_of tree.movie) part)
+      → (is_some (track_for (track_infos tree.movie) part.id) ≡ true) × (is_some (trex_for (trexes_of tree.movie) part.id) ≡ true)
+  known_both part h = and_parts (is_some (track_for (track_infos tree.movie) part.id)) (is_some (trex_for (trexes_of tree.movie) part.id)) h
+
+  grouped_file : AllByRecursion IsGrouped (file_parts tree)
+  grouped_file =
+      all_grouped tree.movie.tracks (file_parts tree)
+      (each_turned (λ (part : Part). IsTrue (is_known (track_infos tree.movie) (trexes_of tree.movie) part)) (λ (part : Part). is_some (track_for (track_infos tree.movie) part.id) ≡ true) (λ part h. (known_both part h).0) (file_parts tree) c.known)
+      (each_turned (λ (t : TrackTree). AreGrouped (plain_keys t) (parts_of_track (file_parts tree) t)) (GroupedFor (file_parts tree)) (λ t h. grouped_parts (plain_keys t) (parts_of_track (file_parts tree) t) h) tree.movie.tracks c.groups)
+
+  -- what a file denotes can be handed out, by its tracks as they are behind their tables
+  pub can_hand_out : (states : List TrackState) → map track_seen states ≡ map (plain_seen (trexes_of tree.movie)) tree.movie.tracks → CanHandOut file tree
+  can_hand_out states e = record {
+    tables = c.tables;
+    known = states;
+    defaults = kept_trexes (trexes_of tree.movie) states tree.movie.tracks e;
+    parts = each_turned _ _ known_part (file_parts tree) c.known;
+    places = c.places;
+    groups = grouped_file;
+  }
+    where
+      known_part : (part : Part) → IsTrue (is_known (track_infos tree.movie) (trexes_of tree.movie) part) → IsTrue (is_known_among states part)
+      known_part part h = let both = known_both part h in ap is_some (among_is (trexes_of tree.movie) part.id states tree.movie.tracks e both.0) ∙ both.1
+
 -- ---- a `moof` of the file
 
 module _ (file : List ℕ) (m : MovieSeen) (tree : FileTree) (earlier : List FragmentTree) (next : FragmentTree) (later : List FragmentTree) (o : IsOpenedAs file m tree) (split : tree.fragments ≡ earlier ++ next ∷ later) where
@@ -106,28 +133,15 @@ module _ (file : List ℕ) (m : MovieSeen) (tree : FileTree) (earlier : List Fra
       (all_last P (parts_behind tree.movie earlier) (parts_behind tree.movie (next ∷ later))
       (subst (AllByRecursion P) (ap (parts_behind tree.movie) split ∙ parts_more tree.movie earlier (next ∷ later)) h))
 
-  known_both : (part : Part) → IsTrue (is_known (track_infos tree.movie) (trexes_of tree.movie) part)
-      → (is_some (track_for (track_infos tree.movie) part.id) ≡ true) × (is_some (trex_for (trexes_of tree.movie) part.id) ≡ true)
-  known_both part h = and_parts (is_some (track_for (track_infos tree.movie) part.id)) (is_some (trex_for (trexes_of tree.movie) part.id)) h
-
-  known_part : (part : Part) → IsTrue (is_known (track_infos tree.movie) (trexes_of tree.movie) part) → IsTrue (is_known_among m.states part)
-  known_part part h = let both = known_both part h in ap is_some (among_is (trexes_of tree.movie) part.id m.states tree.movie.tracks o.states both.0) ∙ both.1
-
   placed_part : (part : Part) → AllByRecursion (λ run. IsTrue (is_within (length file) run)) part.runs → IsPlacedWithin m.file_len part
   placed_part part h = subst (λ (n : ℕ). IsPlacedWithin n part) (sym o.whole) h
 
-  grouped_file : AllByRecursion IsGrouped (file_parts tree)
-  grouped_file =
-      all_grouped tree.movie.tracks (file_parts tree)
-      (each_turned (λ (part : Part). IsTrue (is_known (track_infos tree.movie) (trexes_of tree.movie) part)) (λ (part : Part). is_some (track_for (track_infos tree.movie) part.id) ≡ true) (λ part h. (known_both part h).0) (file_parts tree) o.is_consistent.known)
-      (each_turned (λ (t : TrackTree). AreGrouped (plain_keys t) (parts_of_track (file_parts tree) t)) (GroupedFor (file_parts tree)) (λ t h. grouped_parts (plain_keys t) (parts_of_track (file_parts tree) t) h) tree.movie.tracks o.is_consistent.groups)
-
-  pub moof_sound : m.file_len < 2 ^ 64 → IsSoundMoof m.file_len (trexes_of tree.movie) m.states next
+  pub moof_sound : m.file_len < 2 ^ 64 → IsSoundMoof m.file_len (trexes_of tree.movie) o.hands_out.known next
   moof_sound short = record {
     short = short;
     tree = all_at IsFragmentTree earlier later next (subst (λ (fs : List FragmentTree). AllByRecursion IsFragmentTree fs) split o.is_tree.fragments);
     leaves = all_at IsSoundFragment earlier later next (subst (λ (fs : List FragmentTree). AllByRecursion IsSoundFragment fs) split o.is_sound.fragments);
-    known = own_parts (λ (part : Part). IsTrue (is_known_among m.states part)) (each_turned _ _ known_part (file_parts tree) o.is_consistent.known);
-    places = own_parts (IsPlacedWithin m.file_len) (each_turned _ _ placed_part (file_parts tree) o.is_consistent.places);
-    groups = own_parts IsGrouped grouped_file;
+    known = own_parts (λ (part : Part). IsTrue (is_known_among o.hands_out.known part)) o.hands_out.parts;
+    places = own_parts (IsPlacedWithin m.file_len) (each_turned _ _ placed_part (file_parts tree) o.hands_out.places);
+    groups = own_parts IsGrouped o.hands_out.groups;
   }

@@ -17,7 +17,8 @@ use Rattle.mp4_tables.specs.declared.sample.SampleAt.{SampleAt}
 use Rattle.mp4_frag.specs.format.FragmentRules.{is_within}
 use Rattle.mp4_frag.specs.format.FragmentSamples.{Part, part_samples, parts_for, fragment_samples}
 use Rattle.mp4_head.specs.format.Tree.{TrackTree, track_head_of}
-use Rattle.mp4_present.specs.format.Denotes.{FileTree, IsConsistent, surroundings, bytes_at, sample_of, plain_of, file_parts, placed_of}
+use Rattle.mp4_present.specs.format.Denotes.{FileTree, surroundings, bytes_at, sample_of, plain_of, file_parts, placed_of}
+use Rattle.mp4_present.specs.words.OpenedMovie.{CanHandOut}
 use Rattle.mp4_present.specs.words.Joined.{sample_bytes}
 use Rattle.mp4_present.specs.format.Presentation.{Sample}
 
@@ -61,7 +62,7 @@ fragments_lie n id parts h =
     (each_weaker (λ (part : Part). Q part × ((part.id == id) ≡ true)) Q (λ part x. x.0) (parts_for id parts) (each_kept Q (λ (part : Part). part.id == id) parts h))
 
 -- all samples of a track
-pub placed_lie : (file : List ℕ) (tree : FileTree) (t : TrackTree) → IsConsistent file tree → IsIn tree.movie.tracks t → AllByRecursion (IsInFile (length file)) (placed_of (file_parts tree) t)
+pub placed_lie : (file : List ℕ) (tree : FileTree) (t : TrackTree) → CanHandOut file tree → IsIn tree.movie.tracks t → AllByRecursion (IsInFile (length file)) (placed_of (file_parts tree) t)
 placed_lie file tree t c i =
     let fit = all_in (λ (v : TrackTree). Fit (surroundings file v) (tables_of v.table)) tree.movie.tracks t i c.tables in
     all_append (IsInFile (length file)) (plain_of t) (fragment_samples (track_head_of t).id (file_parts tree)) (plain_lie (surroundings file t) (tables_of t.table) fit) (fragments_lie (length file) (track_head_of t).id (file_parts tree) c.places)

@@ -10,6 +10,7 @@ use Rattle.mp4_head.specs.declared.heads.TrackHead.{TrackHead}
 use Rattle.mp4_present.specs.format.Waiting.{waiting_head, waiting_heads}
 use Rattle.mp4_present.specs.words.HeadsRead.{SaysMovie, places_of, wait_at, waiting_or}
 use Rattle.mp4_present.specs.words.Movies.{MovieSeen, moov_box}
+use Rattle.mp4_present.specs.words.OneTrack.{only_head, shown_at}
 use Rattle.mp4_present.proofs.Changed.{ChangedTo, changed_all}
 
 -- heads of which the first stands at this place
@@ -42,7 +43,7 @@ places_stay (h ∷ heads) zero was is at e = let same : h ≡ was = cc in ap (λ
 places_stay (h ∷ heads) (suc k) was is at e = ap (λ places. h.offset ∷ places) (places_stay heads k was is at e)
 
 -- what a movie says that is told to wait
-pub says_told : (m : MovieSeen) (waits : List ℕ) (own : MovieHead) (result : Result MovieHead Memory) → m.waits ≡ Some waits → SaysHead (moov_box m) own → IfOk result (λ told. head_seen told ≡ waiting_or (Some waits) (head_seen own))
-    → IfOk result (λ told. places_of told.tracks.items ≡ places_of own.tracks.items) → IfOk result (SaysMovie m)
-says_told m waits own (Ok told) e says seen places = record { own = own; says = says; seen = seen ∙ ap (λ w. waiting_or w (head_seen own)) (sym e); places = places }
-says_told m waits own (Err r) e says seen places = seen
+pub says_told : (m : MovieSeen) (waits : List ℕ) (own shown : MovieHead) (result : Result MovieHead Memory) → m.waits ≡ Some waits → SaysHead (moov_box m) own → head_seen shown ≡ only_head m.only (head_seen own) → places_of shown.tracks.items ≡ shown_at m.only (places_of own.tracks.items)
+    → IfOk result (λ told. head_seen told ≡ waiting_or (Some waits) (head_seen shown)) → IfOk result (λ told. places_of told.tracks.items ≡ places_of shown.tracks.items) → IfOk result (SaysMovie m)
+says_told m waits own shown (Ok told) e says only stands seen places = record { own = own; says = says; seen = seen ∙ ap (λ w. waiting_or w (head_seen shown)) (sym e) ∙ ap (waiting_or m.waits) only; places = places ∙ stands }
+says_told m waits own shown (Err r) e says only stands seen places = seen

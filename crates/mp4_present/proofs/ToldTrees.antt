@@ -5,8 +5,9 @@ use Rattle.mp4_boxes.specs.format.Box.{Box}
 use Rattle.mp4_boxes.proofs.Each.{each_weaker}
 use Rattle.mp4_boxes.proofs.Among.{IsIn, all_in}
 use Rattle.mp4_frag.specs.format.FragmentSamples.{Part, start_of}
-use Rattle.mp4_head.specs.format.Tree.{IsTrackTree, MovieTree, TrackTree, head_of, movie_head_of, track_head_of, trexes_of}
-use Rattle.mp4_head.specs.words.Found.{IsFoundIn, SaysHead}
+use Rattle.mp4_head.specs.format.Head as heads
+use Rattle.mp4_head.specs.format.Tree.{IsMovieTree, IsTrackTree, MovieTree, TrackTree, head_of, movie_head_of, track_head_of, trexes_of}
+use Rattle.mp4_head.specs.words.Found.{IsFoundIn}
 use Rattle.mp4_head.specs.words.Seen.{head_seen}
 use Rattle.mp4_head.specs.declared.heads.MovieHead.{MovieHead}
 use Rattle.mp4_head.specs.declared.heads.TrackHead.{TrackHead}
@@ -15,40 +16,47 @@ use Rattle.mp4_present.specs.format.Denotes.{FileTree, Denotes, IsFileTree, file
 use Rattle.mp4_present.specs.format.Waiting.{waiting_all, waiting_heads, waiting_movie, waiting_track, waiting_tracks}
 use Rattle.mp4_present.specs.words.HeadsRead.{SaysMovie, SaysTree, place_of, places_of, waiting_or}
 use Rattle.mp4_present.specs.words.Movies.{MovieSeen, moov_box}
+use Rattle.mp4_present.specs.words.OneTrack.{only_head, only_tree, shown_at}
 use Rattle.mp4_present.specs.words.OpenedMovie.{HoldsTrack, IsOpenedAs, IsOpenedOwn, IsReadTree, IsShownOf, IsTreeOf}
 use Rattle.mp4_present.specs.words.ToldTrees.{AreTracksTold, IsFileTold, IsMovieTold, IsTold, IsTrackTold, later_waits}
 use Rattle.mp4_present.proofs.PlacedTracks.{IsTrackPlaced, tracks_placed}
+use Rattle.mp4_present.proofs.ShownAt.{all_shown, map_shown}
 
 -- of the file's own
 pub read_tree : (file : List ℕ) (t : FileTree) → IsFileTree file t → IsReadTree file t
 read_tree file t h = record { top = h.top; order = h.order; moov = h.moov; moofs = h.moofs; fragments = h.fragments; tracks = each_weaker IsTrackTree HoldsTrack (λ u k. k.track) t.movie.tracks h.movie.tracks }
 
 -- it is shown, and so is one that is told to wait
-pub shown_own : (file : List ℕ) (t : FileTree) → IsTreeOf file t → IsShownOf file None t
+pub shown_own : (file : List ℕ) (t : FileTree) → IsTreeOf file t → IsShownOf file None None t
 unfolding IsShownOf
 shown_own file t is = (t, is, refl)
 
-pub shown_told : (file waits : List ℕ) (own t : FileTree) → IsTreeOf file own → IsFileTold waits own t → IsShownOf file (Some waits) t
+pub shown_only : (file : List ℕ) (own : FileTree) (place : ℕ) → IsTreeOf file own → IsShownOf file (Some place) None (only_tree (Some place) own)
 unfolding IsShownOf
-shown_told file waits own t is told = (own, is, told)
+shown_only file own place is = (own, is, refl)
 
--- ---- where no track is told to wait, the tree is that of the file
-
-pub own_tree : (file : List ℕ) (m : MovieSeen) (tree : FileTree) → IsOpenedAs file m tree → m.waits ≡ None → IsTreeOf file tree
+-- where they aren't told to wait, they can be told that
+pub shown_told : (file waits : List ℕ) (only : Option ℕ) (u t : FileTree) → IsShownOf file only None u → IsFileTold waits u t → IsShownOf file only (Some waits) t
 unfolding IsShownOf
-own_tree file m tree o e = by (subst (λ (w : Option (List ℕ)). (own : FileTree) × IsTreeOf file own × IsTold w own tree) e o.shown)
+shown_told file waits only u t shown told = (shown.0, shown.1, subst (λ (x : FileTree). IsFileTold waits x t) shown.2 told)
+
+-- ---- where all tracks are shown, and not told to wait, the tree is that of the file
+
+pub own_tree : (file : List ℕ) (m : MovieSeen) (tree : FileTree) → IsOpenedAs file m tree → m.only ≡ None → m.waits ≡ None → IsTreeOf file tree
+unfolding IsShownOf
+own_tree file m tree o e f = by (subst (λ (w : Option (List ℕ)). (own : FileTree) × IsTreeOf file own × IsTold w (only_tree None own) tree) f (subst (λ (p : Option ℕ). (own : FileTree) × IsTreeOf file own × IsTold m.waits (only_tree p own) tree) e o.shown))
   where
-    by : (own : FileTree) × IsTreeOf file own × IsTold None own tree → IsTreeOf file tree
+    by : (own : FileTree) × IsTreeOf file own × IsTold None (only_tree None own) tree → IsTreeOf file tree
     by x = subst (IsTreeOf file) (sym x.2) x.1
 
 abbrev pub file_denotes : (file : List ℕ) (m : MovieSeen) (tree : FileTree) → IsOpenedOwn file m tree → Denotes file (presentation_of file tree)
 file_denotes file m tree o =
-    let t = own_tree file m tree o.opened o.own_edits in
+    let t = own_tree file m tree o.opened o.own_tracks o.own_edits in
     record { tree = tree; is_tree = t.is_tree; is_sound = t.is_sound; is_consistent = t.is_consistent; says = refl; limits = o.opened.limits }
 
 -- and it is the only one
 pub file_tree_is : (file : List ℕ) (m : MovieSeen) (tree : FileTree) → IsOpenedOwn file m tree → IsFileTree file tree
-file_tree_is file m tree o = (own_tree file m tree o.opened o.own_edits).is_tree
+file_tree_is file m tree o = (own_tree file m tree o.opened o.own_tracks o.own_edits).is_tree
 
 -- ---- a tree of which nothing but edits is told otherwise
 
@@ -72,16 +80,29 @@ all_placed_again own movie tracks waits (u ∷ us) (t ∷ ts) told h = (
   all_placed_again own movie tracks (later_waits waits) us ts told.1 h.1,
 )
 
+-- those of one track are placed as among all
+placed_alone : (own : FileTree) (tracks : List TrackTree) (u : TrackTree) → IsTrackPlaced own u → IsTrackPlaced (told_tree own own.movie.movie tracks) u
+placed_alone own tracks u p = record { placed = p.placed; keys = p.keys; few = p.few; distinct = p.distinct }
+
 -- the samples and the keys of each track
 pub opened_placed : (file : List ℕ) (m : MovieSeen) (tree : FileTree) → IsOpenedAs file m tree → AllByRecursion (IsTrackPlaced tree) tree.movie.tracks
 unfolding IsShownOf
-opened_placed file m tree o = by m.waits o.shown.0 o.shown.1 o.shown.2
+opened_placed file m tree o = by m.waits (only_tree m.only o.shown.0) o.shown.2 placed
   where
-    by : (w : Option (List ℕ)) (own : FileTree) → IsTreeOf file own → IsTold w own tree → AllByRecursion (IsTrackPlaced tree) tree.movie.tracks
-    by None own is e = subst (λ (x : FileTree). AllByRecursion (IsTrackPlaced x) x.movie.tracks) (sym e) (tracks_placed file own is.is_tree is.is_sound is.is_consistent is.bytes)
-    by (Some waits) own is told =
-        subst (λ (x : FileTree). AllByRecursion (IsTrackPlaced x) tree.movie.tracks) (sym (told_is waits own tree told))
-        (all_placed_again own tree.movie.movie tree.movie.tracks waits own.movie.tracks tree.movie.tracks told.movie.tracks (tracks_placed file own is.is_tree is.is_sound is.is_consistent is.bytes))
+    own : FileTree
+    own = o.shown.0
+
+    placed : AllByRecursion (IsTrackPlaced (only_tree m.only own)) (shown_at m.only own.movie.tracks)
+    placed =
+        let is : IsTreeOf file own = o.shown.1 in
+        each_weaker (IsTrackPlaced own) (IsTrackPlaced (only_tree m.only own)) (placed_alone own (shown_at m.only own.movie.tracks)) (shown_at m.only own.movie.tracks)
+        (all_shown (IsTrackPlaced own) m.only own.movie.tracks (tracks_placed file own is.is_tree is.is_sound is.is_consistent is.bytes))
+
+    by : (w : Option (List ℕ)) (u : FileTree) → IsTold w u tree → AllByRecursion (IsTrackPlaced u) u.movie.tracks → AllByRecursion (IsTrackPlaced tree) tree.movie.tracks
+    by None u e h = subst (λ (x : FileTree). AllByRecursion (IsTrackPlaced x) x.movie.tracks) (sym e) h
+    by (Some waits) u told h =
+        subst (λ (x : FileTree). AllByRecursion (IsTrackPlaced x) tree.movie.tracks) (sym (told_is waits u tree told))
+        (all_placed_again u tree.movie.movie tree.movie.tracks waits u.movie.tracks tree.movie.tracks told.movie.tracks h)
 
 pub track_is_placed : (file : List ℕ) (m : MovieSeen) (tree : FileTree) → IsOpenedAs file m tree → (t : TrackTree) → IsIn tree.movie.tracks t → IsTrackPlaced tree t
 track_is_placed file m tree o t i = all_in (IsTrackPlaced tree) tree.movie.tracks t i (opened_placed file m tree o)
@@ -109,32 +130,54 @@ heads_told [] (u ∷ us) (t ∷ ts) told = λ i. sym told.0.head i ∷ heads_tol
 heads_told (wait ∷ waits) (u ∷ us) (t ∷ ts) told = λ i. sym told.0.head i ∷ heads_told waits us ts told.1 i
 
 -- what is said of a tree is said of one that is told to wait, where it says the waits
-told_says : (u t : MovieTree) (waits : List ℕ) (head own : MovieHead) → IsMovieTold waits u t → (head_seen own ≡ head_of u) × AllZip IsFoundIn u.tracks own.tracks.items → head_seen head ≡ waiting_or (Some waits) (head_seen own)
-    → places_of head.tracks.items ≡ places_of own.tracks.items → SaysTree t head
-told_says u t waits head own is said seen places = record {
-  says = seen ∙ ap (waiting_or (Some waits)) said.0 ∙ (λ i. record { movie = sym is.head i; tracks = heads_told waits u.tracks t.tracks is.tracks i; trexes = trexes_of (sym is.is i) });
-  places = places ∙ places_found u.tracks own.tracks.items said.1 ∙ places_told waits u.tracks t.tracks is.tracks;
+told_says : (u t : MovieTree) (waits : List ℕ) (head : MovieHead) (seen : heads.Head) → IsMovieTold waits u t → seen ≡ head_of u → head_seen head ≡ waiting_or (Some waits) seen → places_of head.tracks.items ≡ map place_of u.tracks → SaysTree t head
+told_says u t waits head seen is said says places = record {
+  says = says ∙ ap (waiting_or (Some waits)) said ∙ (λ i. record { movie = sym is.head i; tracks = heads_told waits u.tracks t.tracks is.tracks i; trexes = trexes_of (sym is.is i) });
+  places = places ∙ places_told waits u.tracks t.tracks is.tracks;
 }
+
+-- what a movie says of the boxes of a file is said of those that it shows
+pub shown_says : (m : MovieSeen) (own t : FileTree) (head : MovieHead) → IsMovieTree own.movie → own.movie.moov ≡ moov_box m → IsTold m.waits (only_tree m.only own) t → SaysMovie m head → SaysTree t.movie head
+shown_says m own t head is moov told s = by m.waits told s.seen
+  where
+    u : FileTree
+    u = only_tree m.only own
+
+    said : (head_seen s.own ≡ head_of own.movie) × AllZip IsFoundIn own.movie.tracks s.own.tracks.items
+    said = said_of (moov_box m) s.own own.movie s.says moov is
+
+    seen : only_head m.only (head_seen s.own) ≡ head_of u.movie
+    seen = ap (only_head m.only) said.0 ∙ (λ i. record { movie = movie_head_of own.movie; tracks = sym (map_shown track_head_of m.only own.movie.tracks) i; trexes = trexes_of own.movie })
+
+    places : places_of head.tracks.items ≡ map place_of u.movie.tracks
+    places = s.places ∙ ap (shown_at m.only) (places_found own.movie.tracks s.own.tracks.items said.1) ∙ sym (map_shown place_of m.only own.movie.tracks)
+
+    by : (w : Option (List ℕ)) → IsTold w u t → head_seen head ≡ waiting_or w (only_head m.only (head_seen s.own)) → SaysTree t.movie head
+    by None e says = subst (λ (x : FileTree). SaysTree x.movie head) (sym e) (record { says = says ∙ seen; places = places })
+    by (Some waits) told says = told_says u.movie t.movie waits head (only_head m.only (head_seen s.own)) told.movie seen says places
+
+-- it is the `moov` of the file that is shown
+pub moov_told : (w : Option (List ℕ)) (u t : FileTree) → IsTold w u t → u.movie.moov ≡ t.movie.moov
+moov_told None u t e = ap (λ (x : FileTree). x.movie.moov) (sym e)
+moov_told (Some waits) u t told = ap (λ (x : FileTree). x.movie.moov) (sym (told_is waits u t told))
 
 -- a movie says what its tree says
 pub tree_said : (file : List ℕ) (m : MovieSeen) (tree : FileTree) (head : MovieHead) → IsOpenedAs file m tree → SaysMovie m head → SaysTree tree.movie head
 unfolding IsShownOf
-tree_said file m tree head o s = by m.waits o.shown.0 o.shown.1 o.shown.2 s.seen
-  where
-    by : (w : Option (List ℕ)) (own : FileTree) → IsTreeOf file own → IsTold w own tree → head_seen head ≡ waiting_or w (head_seen s.own) → SaysTree tree.movie head
-    by None own is e seen =
-        let said = said_of (moov_box m) s.own own.movie s.says (ap (λ (x : FileTree). x.movie.moov) (sym e) ∙ sym o.moov) is.is_tree.movie in
-        subst (λ (x : FileTree). SaysTree x.movie head) (sym e) (record { says = seen ∙ said.0; places = s.places ∙ places_found own.movie.tracks s.own.tracks.items said.1 })
-    by (Some waits) own is told seen =
-        let moov = ap (λ (x : FileTree). x.movie.moov) (sym (told_is waits own tree told)) ∙ sym o.moov in
-        let said = said_of (moov_box m) s.own own.movie s.says moov is.is_tree.movie in
-        told_says own.movie tree.movie waits head s.own told.movie said seen s.places
+tree_said file m tree head o s =
+    let own : FileTree = o.shown.0 in
+    let is : IsTreeOf file own = o.shown.1 in
+    let told : IsTold m.waits (only_tree m.only own) tree = o.shown.2 in
+    shown_says m own tree head is.is_tree.movie (moov_told m.waits (only_tree m.only own) tree told ∙ sym o.moov) told s
 
 -- what a movie says that is told to wait is what the boxes say that tell it
-pub told_said : (file : List ℕ) (m : MovieSeen) (tree told : FileTree) (waits : List ℕ) (head : MovieHead) → IsOpenedAs file m tree → m.waits ≡ None → IsFileTold waits tree told → (own : MovieHead) → SaysHead (moov_box m) own → head_seen head ≡ waiting_or (Some waits) (head_seen own)
-    → places_of head.tracks.items ≡ places_of own.tracks.items → SaysTree told.movie head
-told_said file m tree told waits head o e is own says seen places =
-    told_says tree.movie told.movie waits head own is.movie (said_of (moov_box m) own tree.movie says (sym o.moov) (own_tree file m tree o e).is_tree.movie) seen places
+pub told_said : (file : List ℕ) (m : MovieSeen) (tree told : FileTree) (waits : List ℕ) (n : ℕ) (head : MovieHead) → IsOpenedAs file m tree → m.waits ≡ None → IsFileTold waits tree told → SaysMovie (record m { waits = Some waits; mehd = n }) head → SaysTree told.movie head
+unfolding IsShownOf
+told_said file m tree told waits n head o e is s =
+    let own : FileTree = o.shown.0 in
+    let own_is : IsTreeOf file own = o.shown.1 in
+    let same : tree ≡ only_tree m.only own = subst (λ (w : Option (List ℕ)). IsTold w (only_tree m.only own) tree) e o.shown.2 in
+    shown_says (record m { waits = Some waits; mehd = n }) own told head own_is.is_tree.movie (ap (λ (x : FileTree). x.movie.moov) (sym same) ∙ sym o.moov) (subst (λ (x : FileTree). IsFileTold waits x told) same is) s
 
 -- ---- what they denote
 

@@ -39,7 +39,7 @@ use Rattle.mp4_present.specs.declared.walking.Due.{Due}
 use Rattle.mp4_present.specs.declared.walking.Walk.{Walk}
 use Rattle.mp4_present.proofs.HeldAgain.{HoldSame, holds_as}
 use Rattle.mp4_present.proofs.KeysExtended.{distinct_keys}
-use Rattle.mp4_present.proofs.MoofSound.{moof_sound, kept_trexes}
+use Rattle.mp4_present.proofs.MoofSound.{moof_sound}
 use Rattle.mp4_present.proofs.OwnPlaced.{StandsIn, all_placed, contains_in, its_moof, its_tree, of_part, one_placed, passed, placed_append}
 use Rattle.mp4_present.proofs.TrafInHand.{behind_split, due_more}
 use Rattle.mp4_present.proofs.Assembled.{total_is}
@@ -125,20 +125,20 @@ module _ (file : List ℕ) (m : MovieSeen) (tree : FileTree) (t : TrackTree) (ea
   pub next_has : has_samples next.part ≡ true
   next_has = (and_parts (next.part.id == own_id) (has_samples next.part) own_passed.0).1
 
-  sound : m.file_len < 2 ^ 64 → IsSoundMoof m.file_len trexes m.states moof
+  sound : m.file_len < 2 ^ 64 → IsSoundMoof m.file_len trexes o.hands_out.known moof
   sound short = let i = (its_moof file m tree t earlier next later o split).among in moof_sound file m tree i.front moof i.back o i.are short
 
-  next_known : m.file_len < 2 ^ 64 → IsTrue (is_known_among m.states next.part)
+  next_known : m.file_len < 2 ^ 64 → IsTrue (is_known_among o.hands_out.known next.part)
   next_known short =
-      of_part (λ (p : PlacedTraf). p.part) (λ (part : Part). IsTrue (is_known_among m.states part)) (placed_in trexes moof) next own_passed.1
-      (subst (AllByRecursion (λ (part : Part). IsTrue (is_known_among m.states part))) (sym (placed_parts trexes moof (its_tree file m tree t earlier next later o split))) (sound short).known)
+      of_part (λ (p : PlacedTraf). p.part) (λ (part : Part). IsTrue (is_known_among o.hands_out.known part)) (placed_in trexes moof) next own_passed.1
+      (subst (AllByRecursion (λ (part : Part). IsTrue (is_known_among o.hands_out.known part))) (sym (placed_parts trexes moof (its_tree file m tree t earlier next later o split))) (sound short).known)
 
   -- the defaults that are kept are its own
   pub trex_there : (k : ℕ) → slice_get tree.movie.tracks k ≡ Some t → m.file_len < 2 ^ 64 → trex_for trexes own_id ≡ Some (trex_at m k)
   trex_there k at short =
       let s = state_there track_seen m.states k (plain_seen trexes t) (ap (λ xs. slice_get xs k) o.states ∙ slice_get-map (plain_seen trexes) tree.movie.tracks k ∙ ap (option_map (plain_seen trexes)) at) in
-      let known = some_known (trex_among m.states next.part.id) (next_known short) in
-      let found = trex_found trexes m.states next.part.id known.0 (kept_trexes trexes m.states tree.movie.tracks o.states) known.1 in
+      let known = some_known (trex_among o.hands_out.known next.part.id) (next_known short) in
+      let found = trex_found trexes o.hands_out.known next.part.id known.0 o.hands_out.defaults known.1 in
       let there : trex_for trexes own_id ≡ Some known.0 = ap (trex_for trexes) (sym next_id) ∙ found in
       let kept : s.0.trex ≡ Some known.0 = ap (λ (x : TrackSeen). x.trex) s.2 ∙ there in
       there ∙ ap (λ v. Some v) (sym (ap trex_in s.1 ∙ ap (λ v. unwrap_or v no_trex) kept))
@@ -243,8 +243,8 @@ module _ (file : List ℕ) (m : MovieSeen) (tree : FileTree) (t : TrackTree) (ea
         let distinct : AreDistinct (keys_seen info.keys) = subst AreDistinct (sym info_is.keys) (distinct_keys (tables_of t.table).groups (flat_map (λ (part : Part). part.groups) (parts_of_track (file_parts tree) t))) in
         let among : Contains (own_in trexes info.id i.x) next = subst (λ n. Contains (own_in trexes n i.x) next) (sym info_is.id) (contains_in (own_in trexes (track_head_of t).id i.x) next i.own) in
         let defaults : trex_for trexes info.id ≡ Some trex = ap (trex_for trexes) info_is.id ∙ trex_there file m tree t earlier next later o h.split w.track h.is_track short ∙ ap (λ v. Some v) (sym is) in
-        by m.file_len trexes m.states i.x next among (sym h.bytes ∙ sym seen) (ap (λ (n : OwnTraf). n.base) (sym h.traf))
-        (moof_sound file m tree i.among.front i.x i.among.back o i.among.are short) (kept_trexes trexes m.states tree.movie.tracks o.states) defaults distinct (subst (λ n. n + length (part_samples next.part) < 2 ^ 32) (sym (number_is number count)) numbers_small) ends_small
+        by m.file_len trexes o.hands_out.known i.x next among (sym h.bytes ∙ sym seen) (ap (λ (n : OwnTraf). n.base) (sym h.traf))
+        (moof_sound file m tree i.among.front i.x i.among.back o i.among.are short) o.hands_out.defaults defaults distinct (subst (λ n. n + length (part_samples next.part) < 2 ^ 32) (sym (number_is number count)) numbers_small) ends_small
         ∙ ap (λ ss. timed (keys_seen info.keys) number w.due ss) (sym (one_placed next)) ∙ ap (λ ks. timed ks number w.due mine) info_is.keys ∙ (λ i. timed (track_keys tree t) (number_is number count i) (h.due i) mine)
 
   -- it has some

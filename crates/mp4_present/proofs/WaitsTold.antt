@@ -1,15 +1,13 @@
 -- A file whose tracks are told to wait has boxes that say it.
-use Rattle.std.proofs.Common.{◌≡◌, ℕ, ◌+◌, ◌^◌, ◌<◌, ◌≤◌, ◌==◌, Bool, true, false, if◌then◌else◌, List, [], ◌∷◌, length, map, None, Some, refl, sym, ap, subst, ◌∙◌, arith, lit<}
-use Rattle.std.specs.Prelude.{codes, pos, negsuc, IsTrue}
+use Rattle.std.proofs.Common.{◌≡◌, ℕ, ◌+◌, ◌^◌, ◌<◌, ◌≤◌, ◌==◌, Bool, true, false, if◌then◌else◌, List, [], ◌∷◌, length, map, Option, None, Some, refl, sym, ap, subst, ◌∙◌, arith, lit<}
+use Rattle.std.specs.Prelude.{codes, pos, negsuc}
 use Rattle.std.specs.List.{AllByRecursion, AllZip}
 use Rattle.mp4_boxes.specs.format.Bytes.{sum_of}
 use Rattle.mp4_boxes.specs.format.Box.{Box}
-use Rattle.mp4_boxes.specs.format.Children.{payload_among, payload_if, sample_sizes}
+use Rattle.mp4_boxes.specs.format.Children.{payload_if}
 use Rattle.mp4_boxes.specs.format.Layout.{mvhd, leaf_fields}
 use Rattle.mp4_tables.specs.format.TableRules.{Fit}
-use Rattle.mp4_tables.specs.format.Tables.{sample_count, tables_of}
-use Rattle.mp4_frag.specs.format.FragmentRules.{has_indexes, is_known}
-use Rattle.mp4_frag.specs.format.FragmentSamples.{AreGrouped, AreOnTime, Part}
+use Rattle.mp4_tables.specs.format.Tables.{tables_of}
 use Rattle.mp4_frag.specs.words.OwnTrafs.{OwnSeen}
 use Rattle.mp4_head.specs.format.Head as heads
 use Rattle.mp4_head.specs.format.Head.{Edit, IsMovieHead}
@@ -18,17 +16,18 @@ use Rattle.mp4_head.proofs.Distinct.{map_twice}
 use Rattle.mp4_head.proofs.TreeBytes.{movie_of_bytes}
 use Rattle.mp4_head.proofs.ValidHead.{movie_head_valid}
 use Rattle.mp4_head.proofs.WrittenLeaves.{edits_again, elst_payload, movie_again, mvhd_again, mvhd_payload}
-use Rattle.mp4_present.specs.format.Denotes.{FileTree, IsConsistent, file_parts, first_due, parts_of_track, plain_keys, presentation_of, surroundings, track_infos, track_of}
+use Rattle.mp4_present.specs.format.Denotes.{FileTree, file_parts, presentation_of, surroundings, track_of}
 use Rattle.mp4_present.specs.format.Presentation.{Track, max_samples}
 use Rattle.mp4_present.specs.format.Waiting.{waiting, waiting_movie}
 use Rattle.mp4_present.specs.words.Movies.{MovieSeen}
-use Rattle.mp4_present.specs.words.OpenedMovie.{AreTablesOf, HoldsTrack, IsInfoOf, IsOpenedAs, IsShownOf, plain_seen}
+use Rattle.mp4_present.specs.words.OneTrack.{only_tree}
+use Rattle.mp4_present.specs.words.OpenedMovie.{AreTablesOf, CanHandOut, HoldsTrack, IsInfoOf, IsOpenedAs, IsShownOf, IsTreeOf, plain_seen}
 use Rattle.mp4_present.specs.words.OwnTrafs.{IsOwn}
-use Rattle.mp4_present.specs.words.ToldTrees.{AreTracksTold, IsFileTold, first_wait, later_waits}
+use Rattle.mp4_present.specs.words.ToldTrees.{AreTracksTold, IsFileTold, IsTold, first_wait, later_waits}
 use Rattle.mp4_present.specs.words.Waits.{HasLimits, PassesNoLimit}
 use Rattle.mp4_present.specs.declared.movie.TrackTables.{TrackTables}
 use Rattle.mp4_present.specs.declared.track_info.TrackInfo.{TrackInfo}
-use Rattle.mp4_present.proofs.ToldTrees.{own_tree, shown_told, told_said}
+use Rattle.mp4_present.proofs.ToldTrees.{shown_told, told_said}
 
 -- ---- the edits
 
@@ -91,10 +90,6 @@ map_told : {B : Type 0} (f g : TrackTree → B) → ((t : TrackTree) (edits : Li
 map_told f g same waits [] = refl
 map_told f g same waits (t ∷ ts) = λ i. same t (waiting_boxes (first_wait waits)) i ∷ map_told f g same (later_waits waits) ts i
 
-sum_told : (f g : TrackTree → ℕ) → ((t : TrackTree) (edits : List Box) → g (record t { edits = edits }) ≡ f t) → (waits : List ℕ) (ts : List TrackTree) → sum_of g (waiting_trees waits ts) ≡ sum_of f ts
-sum_told f g same waits [] = refl
-sum_told f g same waits (t ∷ ts) = λ i. same t (waiting_boxes (first_wait waits)) i + sum_told f g same (later_waits waits) ts i
-
 -- ---- the file
 
 abbrev waiting_box : heads.MovieHead → Box
@@ -107,10 +102,16 @@ module _ (waits : List ℕ) (file : List ℕ) (m : MovieSeen) (tree : FileTree) 
   abbrev pub told : FileTree
   told = waiting_tree waits tree
 
+  -- the tree is that of the file, with all of its tracks or one
+  own_is : (own_tree : FileTree) × IsTreeOf file own_tree × (tree ≡ only_tree m.only own_tree)
+  unfolding IsShownOf
+  own_is = (o.shown.0, o.shown.1, subst (λ (w : Option (List ℕ)). IsTold w (only_tree m.only o.shown.0) tree) own o.shown.2)
+
   head_valid : IsMovieHead (movie_head_of tree.movie)
   head_valid =
-      let t = own_tree file m tree o own in
-      movie_head_valid tree.movie (movie_of_bytes tree.movie t.bytes.moov t.is_tree.movie) t.is_tree.movie t.is_sound.movie
+      let t = own_is in
+      let valid = movie_head_valid t.0.movie (movie_of_bytes t.0.movie t.1.bytes.moov t.1.is_tree.movie) t.1.is_tree.movie t.1.is_sound.movie in
+      subst (λ (x : FileTree). IsMovieHead (movie_head_of x.movie)) (sym t.2) valid
 
   waiting_valid : IsMovieHead (waiting_movie (movie_head_of tree.movie))
   waiting_valid =
@@ -129,8 +130,8 @@ module _ (waits : List ℕ) (file : List ℕ) (m : MovieSeen) (tree : FileTree) 
         };
       }
 
-  is_shown : IsShownOf file (Some waits) told
-  is_shown = shown_told file waits tree told (own_tree file m tree o own) is_told
+  is_shown : IsShownOf file m.only (Some waits) told
+  is_shown = shown_told file waits m.only tree told (subst (λ (w : Option (List ℕ)). IsShownOf file m.only w tree) own o.shown) is_told
 
   infos_stay : (t : TrackTree) (edits : List Box) (info : TrackInfo) → IsInfoOf file tree t info → IsInfoOf file told (record t { edits = edits }) info
   infos_stay t edits info i = record { id = i.id; timescale = i.timescale; start = i.start; samples = i.samples; duration = i.duration; bytes = i.bytes; keys = i.keys }
@@ -147,20 +148,16 @@ module _ (waits : List ℕ) (file : List ℕ) (m : MovieSeen) (tree : FileTree) 
   scales_are : AllByRecursion (λ (t : TrackTree). 0 < (track_head_of t).media.timescale) told.movie.tracks
   scales_are = each_told (λ (t : TrackTree). 0 < (track_head_of t).media.timescale) (λ (t : TrackTree). 0 < (track_head_of t).media.timescale) (λ t edits h. h) waits tree.movie.tracks o.is_sound.timescales
 
-  same_facts : track_infos told.movie ≡ track_infos tree.movie
-  same_facts = map_told (λ (t : TrackTree). record { id = (track_head_of t).id; descriptions = length t.descriptions }) (λ (t : TrackTree). record { id = (track_head_of t).id; descriptions = length t.descriptions }) (λ t edits. refl) waits tree.movie.tracks
-
-  consistent : IsConsistent file told
-  consistent =
-      let c = o.is_consistent in
-      let facts = sym same_facts in
+  hands_out : CanHandOut file told
+  hands_out =
+      let c = o.hands_out in
       record {
         tables = each_told (λ (t : TrackTree). Fit (surroundings file t) (tables_of t.table)) (λ (t : TrackTree). Fit (surroundings file t) (tables_of t.table)) (λ t edits h. h) waits tree.movie.tracks c.tables;
-        known = subst (λ infos. AllByRecursion (λ (part : Part). IsTrue (is_known infos (trexes_of tree.movie) part)) (file_parts tree)) facts c.known;
-        indexes = subst (λ infos. AllByRecursion (λ (part : Part). IsTrue (has_indexes infos part)) (file_parts tree)) facts c.indexes;
+        known = c.known;
+        defaults = c.defaults;
+        parts = c.parts;
         places = c.places;
-        groups = each_told (λ (t : TrackTree). AreGrouped (plain_keys t) (parts_of_track (file_parts tree) t)) (λ (t : TrackTree). AreGrouped (plain_keys t) (parts_of_track (file_parts tree) t)) (λ t edits h. h) waits tree.movie.tracks c.groups;
-        times = each_told (λ (t : TrackTree). AreOnTime (first_due (file_parts tree) t) (parts_of_track (file_parts tree) t)) (λ (t : TrackTree). AreOnTime (first_due (file_parts tree) t) (parts_of_track (file_parts tree) t)) (λ t edits h. h) waits tree.movie.tracks c.times;
+        groups = c.groups;
       }
 
   same_ids : map (λ (x : heads.TrackHead). x.id) (map track_head_of told.movie.tracks) ≡ map (λ (x : heads.TrackHead). x.id) (map track_head_of tree.movie.tracks)
@@ -190,14 +187,13 @@ module _ (waits : List ℕ) (file : List ℕ) (m : MovieSeen) (tree : FileTree) 
       timescales = scales_are;
       track_ids = ap are_distinct same_ids ∙ o.is_sound.track_ids;
     };
-    is_consistent = consistent;
+    hands_out = hands_out;
     limits = record { samples = subst (λ n. n ≤ max_samples) (sym (all_samples tree.movie.tracks waits)) o.limits.samples; times = limits.times; moov = limits.moov };
     whole = o.whole;
     moov = o.moov;
     longest_is = o.longest_is;
     tables = zip_told (AreTablesOf m.moov) (AreTablesOf m.moov) tables_stay waits tree.movie.tracks m.tables o.tables;
     states = o.states ∙ sym (map_told (plain_seen (trexes_of tree.movie)) (plain_seen (trexes_of tree.movie)) (λ t edits. refl) waits tree.movie.tracks);
-    room = ap (λ k. m.room + k) (sum_told (λ (t : TrackTree). sample_count (payload_among sample_sizes t.table)) (λ (t : TrackTree). sample_count (payload_among sample_sizes t.table)) (λ t edits. refl) waits tree.movie.tracks) ∙ o.room;
     tracks = infos_are;
     own = zip_told (λ (t : TrackTree) seen. IsOwn tree.movie (track_head_of t).id tree.fragments seen) (λ (t : TrackTree) seen. IsOwn told.movie (track_head_of t).id told.fragments seen) owns_stay waits tree.movie.tracks m.own o.own;
     mehd = limits.longest;
@@ -206,7 +202,7 @@ module _ (waits : List ℕ) (file : List ℕ) (m : MovieSeen) (tree : FileTree) 
   -- what it says is within the limits or not
   pub has_limits : (n : ℕ) → HasLimits file (record m { waits = Some waits; mehd = n }) told
   has_limits n = record {
-    heads = λ head s. told_said file m tree told waits head o own is_told s.own s.says s.seen s.places;
+    heads = λ head s. told_said file m tree told waits n head o own is_told s;
     moov = o.moov;
     tracks = infos_are;
     timescales = scales_are;

@@ -139,7 +139,7 @@ track_not_put file {takes = takes} joins a b c held_b all to_come h none p =
 pub track_lies : (file : List ℕ) (m : MovieSeen) (tree : FileTree) (t : TrackTree) (k : ℕ) → IsOpenedAs file m tree → slice_get tree.movie.tracks k ≡ Some t → AllByRecursion (IsBelow (length file)) (track_samples tree t)
 track_lies file m tree t k o is =
     let Lie : TrackTree → Type 0 = λ u. AllByRecursion (IsInFile (length file)) (placed_of (file_parts tree) u) in
-    timed_lie (length file) _ _ _ (placed_of (file_parts tree) t) (get_every Lie tree.movie.tracks k t is (each_member Lie tree.movie.tracks (λ u i. placed_lie file tree u o.is_consistent i)))
+    timed_lie (length file) _ _ _ (placed_of (file_parts tree) t) (get_every Lie tree.movie.tracks k t is (each_member Lie tree.movie.tracks (λ u i. placed_lie file tree u o.hands_out i)))
 
 -- what follows where those in hand do, and have no more bytes than are left
 pub in_hand_lies : (file : List ℕ) (tree : FileTree) (t : TrackTree) (m : MovieSeen) (Took : List ℕ → Type 0) (held_b : List ℕ) (w : Walk) (all to_come : List SampleAt) (n left : ℕ) (X : Type 0) → HandGoesOn file Took [] held_b all to_come → Comes file tree t m w to_come

@@ -11,6 +11,7 @@ pub mod Joined
 pub mod Plain
 pub mod Carried
 pub mod Opening
+pub mod OneTrack
 pub mod HeadsRead
 pub mod ToldTrees
 pub mod OpenedMovie

@@ -1,4 +1,5 @@
 //! A file that was opened: the bytes of its `moov`, and plain numbers.
+use crate::one_track::only_track;
 use crate::own_trafs::OwnTrafs;
 use crate::reading::TopBox;
 use crate::track_info::TrackInfo;
@@ -38,13 +39,14 @@ pub struct Movie {
     /// The length of the longest `moof`.
     pub(crate) longest: u64,
     pub(crate) tables: Vec<TrackTables>,
-    /// The tracks behind their tables, and how many samples there is room for in fragments.
+    /// The tracks behind their tables.
     pub(crate) states: Vec<TrackState>,
-    pub(crate) room: u32,
     pub(crate) tracks: Vec<TrackInfo>,
     /// Which `traf`s have samples of each track.
     pub(crate) own: Vec<OwnTrafs>,
     pub(crate) mehd: u64,
+    /// Which track of the `moov` is shown, by its place, where it is one alone.
+    pub(crate) only: Option<usize>,
     /// How many microseconds each track waits, where that is said in the place of its edits.
     pub(crate) waits: Option<Vec<u64>>,
 }
@@ -63,10 +65,10 @@ impl Model for Movie {
       longest = m.longest;
       tables = m.tables.items;
       states = m.states.items;
-      room = m.room;
       tracks = m.tracks.items;
       own = map own_seen m.own.items;
       mehd = m.mehd;
+      only = m.only;
       waits = option_map (λ w. w.items) m.waits;
     } };
 
@@ -77,10 +79,10 @@ impl Model for Movie {
       longest = m.longest;
       tables = m.tables.items;
       states = m.states.items;
-      room = m.room;
       tracks = m.tracks.items;
       own = map own_seen m.own.items;
       mehd = m.mehd;
+      only = m.only;
       waits = option_map (λ w. w.items) m.waits;
     }) };
 }
@@ -93,7 +95,8 @@ impl Movie {
     ghost use Rattle.mp4_present.specs.declared.movie.TrackTables.{TrackTables};
 
     /// What the movie and its tracks say of themselves, read anew from the bytes of the `moov`;
-    /// where tracks are told to wait, they say that in the place of their edits.
+    /// where one track is shown alone, that of it; where tracks are told to wait, they say that in
+    /// the place of their edits.
     pub fn head(&self, alloc: Global) -> Result<MovieHead<'_>, Memory>
         ensures { IfOk result (SaysMovie self.entry.now) }
     {
@@ -101,9 +104,10 @@ impl Movie {
         let Ok(head) = read_head(alloc, view) else {
             return Err(Memory);
         };
+        let shown = only_track(head, self.only);
         match &self.waits {
-            None => Ok(head),
-            Some(waits) => told(alloc, head, waits.as_slice()),
+            None => Ok(shown),
+            Some(waits) => told(alloc, shown, waits.as_slice()),
         }
     }
 

@@ -122,7 +122,7 @@ impl Movie {
     ghost use Rattle.mp4_present.specs.words.Waits.{HasLimits, NamesLimit, NamesLimitOf, PassesNoLimit, RefusesWaits};
 
     // The length of the longest track, if all is within the limits.
-    fn length_within(&self, alloc: Global) -> Result<u64, Refusal>
+    pub(crate) fn length_within(&self, alloc: Global) -> Result<u64, Refusal>
         ensures within { (file : List ℕ) (tree : FileTree) → HasLimits file self.now tree
             → IfOk result (λ n. PassesNoLimit n (presentation_of file tree)) }
         ensures fault { (file : List ℕ) (tree : FileTree) → HasLimits file self.now tree

@@ -61,8 +61,8 @@ job_puts_on jobs.Show Took More on p = tt
 job_puts_on (jobs.Samples track form) Took More on p = tt
 job_puts_on (jobs.Extract track) Took More on p = tt
 job_puts_on jobs.Normalise Took More on p = puts_on _ Took More on p
-job_puts_on (jobs.Reduce l) Took More on p = puts_on l Took More on p
-job_puts_on (jobs.Print l) Took More on p = tt
+job_puts_on (jobs.Reduce s) Took More on p = puts_on s.leaving Took More on p
+job_puts_on (jobs.Print s) Took More on p = tt
 job_puts_on (jobs.Strip names) Took More on p = tt
 
 pub between : {Y : Type 0} {takes : Y → Y → List ℕ → Type 0} (joins : IsJoining takes) (a b c d : Y) → takes a b [] → takes c d [] → (text : List ℕ) → takes b c text → takes a d text

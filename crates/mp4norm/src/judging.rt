@@ -82,12 +82,14 @@ pub(crate) fn judge_all<J: Judge>(
     Ok(first.max(second))
 }
 
-/// A file of a list of sums: its name, its sum, and of what that is.
+/// A file of a list of sums: its name, its sum, and of what that is: of which track, where that is
+/// one alone.
 #[derive(Drop)]
 pub(crate) struct ListedFile {
     pub(crate) name: Vec<u8>,
     pub(crate) digest: [u8; DIGEST],
     pub(crate) what: SumOf,
+    pub(crate) track: Option<u32>,
 }
 
 /// Who sums one file after the other, and puts what is to be said of each.

@@ -4,6 +4,7 @@ ghost use Rattle.std.specs.Prelude.{◌≡◌, [], ◌∷◌, ◌++◌, Bool, tr
 ghost use Rattle.std.specs.Process.{exit_status};
 ghost use Rattle.mp4_store.specs.words.Device.{HasRisen, TakesPrefix};
 ghost use Rattle.mp4_present.specs.words.StoresRead.{OnlyReads, WhereHonest, WhereRead};
+ghost use Rattle.mp4_answers.specs.format.Sums.{Summed};
 ghost use Rattle.mp4_answers.specs.format.Run.{KeepsFile, look_of};
 ghost use Rattle.mp4_answers.specs.format.Texts.{fault_line};
 ghost use Rattle.mp4_answers.specs.format.Verdicts.{verdict_status};
@@ -18,10 +19,12 @@ use mp4_answers::commands::perform::perform;
 use mp4_answers::commands::sum::{sum_bytes, sum_file};
 use mp4_answers::digests::DIGEST;
 use mp4_answers::jobs::Job;
+use mp4_answers::selection::Selection;
 use mp4_answers::text::fault_text::{fault_line, status};
 use mp4_answers::text::sum_lines::SumOf;
 use mp4_answers::text::verdicts::verdict_status;
 use mp4_boxes::{Refusal, Steps};
+use mp4_content::Without;
 use mp4_store::{Sink, Store, WriteFailed};
 use std::alloc::Global;
 use std::process::ExitCode;
@@ -217,6 +220,22 @@ pub(crate) fn ended<E: Sink>(errors: &mut E, answer: &Result<(), Refusal>) -> Ex
 /// What was found of a file: its sum, where that was asked for, or that it is accepted.
 pub(crate) type FoundSum = Result<Option<[u8; DIGEST]>, Refusal>;
 
+// The sum of what is left of a file, or of its track with this ID alone.
+fn form_sum<S: Store, L: Ledger, M: Ledger>(
+    alloc: Global,
+    track: Option<u32>,
+    leaving: Without,
+    store: &mut S,
+    steps: &mut Steps<L, M>,
+) -> Result<[u8; DIGEST], Refusal>
+    ensures store { KeepsFile S.Store store.old store.new }
+    ensures answer { Summed (record { track = track; leaving = leaving })
+        (look_of S.Store store.old store.new) result }
+{
+    let selection = Selection { track, leaving };
+    sum_file(alloc, store, selection, steps)
+}
+
 /// Finds what is asked for of what is read.
 pub(crate) fn find<S: Store, L: Ledger, M: Ledger>(
     alloc: Global,
@@ -234,9 +253,10 @@ pub(crate) fn find<S: Store, L: Ledger, M: Ledger>(
         }
         Finding::Sum {
             what: SumOf::Form(leaving),
+            track,
             ..
         } => {
-            let digest = sum_file(alloc, store, leaving, steps)?;
+            let digest = form_sum(alloc, track, leaving, store, steps)?;
             Ok(Some(digest))
         }
         Finding::Sum {

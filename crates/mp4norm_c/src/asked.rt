@@ -90,7 +90,12 @@ fn asked_of(leaving: Option<Without>, listing: Option<Listing>) -> Option<Asked>
     ensures { result ≡ asked_of leaving listing }
 {
     match (leaving, listing) {
-        (Some(leaving), Some(listing)) => Some(Asked { leaving, listing }),
+        (Some(leaving), Some(listing)) => Some(Asked {
+            first: None,
+            second: None,
+            leaving,
+            listing,
+        }),
         _ => None,
     }
 }

@@ -26,11 +26,11 @@ fn compared<L: Ledger, M: Ledger>(
 ) -> Result<bool, Failure>
     requires steps { IsOf L.Ledger counted.0 }
     requires looks { IsOf M.Ledger counted.1 }
-    ensures verdict { IfOk result (λ same. IsVerdict asked.leaving file.now other.now same) }
+    ensures verdict { IfOk result (λ same. IsVerdict asked file.now other.now same) }
     ensures same { IfOk result (λ same. same ≡ true → Took text.old text.new (same_text asked)) }
     ensures differ { IfOk result (λ same. same ≡ false → PutsSuch (Took text.old text.new)
-        (IsTold asked.listing asked.leaving file.now other.now)) }
-    ensures refusal { IfErr result (RefusesTwo asked.leaving file.now other.now) }
+        (IsTold asked file.now other.now)) }
+    ensures refusal { IfErr result (RefusesTwo asked file.now other.now) }
 {
     let mut left = MemStore::new(file);
     let mut right = MemStore::new(other);

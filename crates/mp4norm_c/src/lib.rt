@@ -24,7 +24,7 @@ use crate::looks::{answer_check, answer_length, answer_sum};
 use crate::window_answers::answer_window;
 pub use answer::{Answer, Digest};
 pub use asked::{Comparison, Version};
-use mp4_answers::Job;
+use mp4_answers::{Job, Selection};
 use std::alloc::Global;
 
 /// Whether a file has a normal form.
@@ -70,7 +70,9 @@ pub extern "C" fn mp4norm_normal_range(
 )
     ensures { Answers (reduce_job (without_of words)) file.now from out.old out.new answer.new }
 {
-    let job = without_of(words).map(|leaving| Job::Reduce { leaving });
+    let job = without_of(words).map(|leaving| Job::Reduce {
+        selection: Selection::whole(leaving),
+    });
     *answer = answer_window(alloc, job, file, from, out);
 }
 
@@ -86,7 +88,9 @@ pub extern "C" fn mp4norm_print_range(
 )
     ensures { Answers (print_job (without_of words)) file.now from out.old out.new answer.new }
 {
-    let job = without_of(words).map(|leaving| Job::Print { leaving });
+    let job = without_of(words).map(|leaving| Job::Print {
+        selection: Selection::whole(leaving),
+    });
     *answer = answer_window(alloc, job, file, from, out);
 }
 

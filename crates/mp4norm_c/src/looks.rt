@@ -1,4 +1,5 @@
 //! What is found of a file without a text.
+ghost use Rattle.mp4_answers.specs.format.Selected.{whole};
 ghost use Rattle.mp4_answers.specs.format.Answers.{Judged, ReducedTo};
 ghost use Rattle.mp4_answers.specs.format.Sums.{Summed};
 ghost use Rattle.mp4norm_c.specs.format.Exports.{Checks, Measures, Sums};
@@ -8,7 +9,7 @@ ghost use Rattle.mp4norm_c.specs.words.Windows.{memory_look};
 
 use crate::answer::{Answer, Digest, plain, told};
 use crate::counting::CountSink;
-use mp4_answers::{check, normalise_reduced, sum_file};
+use mp4_answers::{Selection, check, normalise_reduced, sum_file};
 use mp4_boxes::{Refusal, Steps};
 use mp4_content::Without;
 use mp4_store::MemStore;
@@ -44,11 +45,15 @@ fn summed<L: Ledger, M: Ledger>(
 ) -> Result<[u8; 32], Refusal>
     requires steps { IsOf L.Ledger steps }
     requires looks { IsOf M.Ledger looks }
-    ensures { Summed leaving (memory_look file.now) result }
+    ensures { Summed (whole leaving) (memory_look file.now) result }
 {
     let mut store = MemStore::new(file);
     let mut steps = Steps::<L, M>::new(steps, looks);
-    sum_file(alloc, &mut store, leaving, &mut steps)
+    let selection = Selection {
+        track: None,
+        leaving,
+    };
+    sum_file(alloc, &mut store, selection, &mut steps)
 }
 
 /// The sum of what is left of a file; without an answer the digest stays as it is.
@@ -84,11 +89,15 @@ fn counted<L: Ledger, M: Ledger>(
 ) -> Result<(), Refusal>
     requires steps { IsOf L.Ledger steps }
     requires looks { IsOf M.Ledger looks }
-    ensures { ReducedTo leaving (count_run file.now sink.old sink.new) result }
+    ensures { ReducedTo (whole leaving) (count_run file.now sink.old sink.new) result }
 {
     let mut store = MemStore::new(file);
     let mut steps = Steps::<L, M>::new(steps, looks);
-    normalise_reduced(alloc, &mut store, sink, leaving, &mut steps)
+    let selection = Selection {
+        track: None,
+        leaving,
+    };
+    normalise_reduced(alloc, &mut store, sink, selection, &mut steps)
 }
 
 /// How long the normal form is of what is left of a file.

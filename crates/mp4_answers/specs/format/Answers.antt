@@ -5,12 +5,12 @@ use Rattle.mp4_boxes.specs.declared.fault.Fault.{Fault}
 use Rattle.mp4_boxes.specs.declared.refusal.Refusal.{Refusal}
 use Rattle.mp4_boxes.specs.declared.rule.Rule.TheVariants.{File}
 use Rattle.mp4_present.specs.format.Judge.{judge}
-use Rattle.mp4_content.specs.declared.without.Without.{Without}
 use Rattle.mp4_answers.specs.format.Run.{Run, Honest, Answered, NeverChanged, PutsAtOnce, PutsNothing}
 use Rattle.mp4_answers.specs.format.Headline.{HasNormalForm}
 use Rattle.mp4_answers.specs.format.ReducedHeadline.{HasReducedForm, LeftFaultStands, PassesLimits}
 use Rattle.mp4_answers.specs.format.Told.{IsFaultTold}
-use Rattle.mp4_answers.specs.format.FileTexts.{ShowsLine, ListsSamples, HasData, LacksTrack, PrintsText}
+use Rattle.mp4_answers.specs.format.FileTexts.{ShowsLine, ListsSamples, HasData, PrintsText}
+use Rattle.mp4_answers.specs.format.Selected.{LacksNamed, LacksTrack}
 use Rattle.mp4_answers.specs.format.BoxWalk.{under, FaultSeen}
 use Rattle.mp4_answers.specs.format.Strips.{IsStripped, Halts}
 use Rattle.mp4_answers.specs.format.BoxTexts.{FormLines, with_fields, without_fields}
@@ -20,6 +20,7 @@ use Rattle.mp4_answers.specs.declared.jobs.Job.{Job}
 use Rattle.mp4_answers.specs.declared.jobs.Job.TheVariants as jobs
 use Rattle.mp4_answers.specs.declared.jobs.BoxForm.{BoxForm}
 use Rattle.mp4_answers.specs.declared.jobs.Syntax.{Syntax}
+use Rattle.mp4_answers.specs.declared.selection.Selection.{Selection}
 
 -- the first fault of the file (laws say that it stands there, and that nothing is denoted)
 abbrev pub IsFaultOf : List ℕ → Fault → Type 0
@@ -34,11 +35,13 @@ abbrev pub Judged : {A : Type 0} → Run → Result A Refusal → Type 0
 Judged r result = Answered r (λ text. (text ≡ []) × (form : List ℕ) × HasNormalForm r.file form)
     (IsFaultOf r.file) ⊥ result
 
--- `normalise --without`: the normal form of what is left; nothing, where that has none
-abbrev pub ReducedTo : {A : Type 0} → Without → Run → Result A Refusal → Type 0
-ReducedTo l r result = Answered r (HasReducedForm l r.file)
-    (λ f. IsFaultTold l r.file f ⊎ LeftFaultStands l r.file f) ⊥ result
-    × (Honest r → PassesLimits l r.file → PutsNothing r)
+-- `normalise --without`, or of one track: the normal form of what is left; nothing, where that has
+-- none
+abbrev pub ReducedTo : {A : Type 0} → Selection → Run → Result A Refusal → Type 0
+ReducedTo s r result = Answered r (HasReducedForm s r.file)
+    (λ f. IsFaultTold s r.file f ⊎ LeftFaultStands s r.file f)
+    (LacksNamed s.track r.honest r.file) result
+    × (Honest r → PassesLimits s r.file → PutsNothing r)
 
 -- `show`: one line
 abbrev pub Shown : {A : Type 0} → Run → Result A Refusal → Type 0
@@ -73,14 +76,15 @@ StrippedOf names r result = Answered r (IsStripped names r.file)
     (λ f. Halts names f File 0 r.file) ⊥ result
 
 -- `print`: the text of what is left
-abbrev pub Printed : {A : Type 0} → Without → Run → Result A Refusal → Type 0
-Printed l r result = Answered r (PrintsText l r.file) (IsFaultTold l r.file) ⊥ result
+abbrev pub Printed : {A : Type 0} → Selection → Run → Result A Refusal → Type 0
+Printed s r result = Answered r (PrintsText s r.file) (IsFaultTold s r.file)
+    (LacksNamed s.track r.honest r.file) result
 
 -- a job: what its command promises
 abbrev pub Performed : {A : Type 0} → Job → Run → Result A Refusal → Type 0
 Performed jobs.Normalise r result = Normalised r result
-Performed (jobs.Reduce l) r result = ReducedTo l r result
-Performed (jobs.Print l) r result = Printed l r result
+Performed (jobs.Reduce s) r result = ReducedTo s r result
+Performed (jobs.Print s) r result = Printed s r result
 Performed jobs.Show r result = Shown r result
 Performed (jobs.Samples track form) r result = Listed track form r result
 Performed (jobs.Extract track) r result = Extracted track r result

@@ -1,11 +1,10 @@
 -- What comparing two files answers.
-use Rattle.std.specs.Prelude.{◌≡◌, ◌↔◌, ◌≤◌, ℕ, ◌+◌, ◌*◌, nat_le, List, [], ◌++◌, length, take, map, flat_map, slice_get, Bool, true, false, if◌then◌else◌, Option, Some, None, Ok}
+use Rattle.std.specs.Prelude.{◌≡◌, ◌↔◌, ◌≤◌, ℕ, ◌+◌, ◌*◌, nat_le, List, [], ◌++◌, length, take, map, flat_map, slice_get, Bool, true, false, if◌then◌else◌, Option, Some, None}
 use Rattle.mp4_boxes.specs.format.Bytes.{AreBytes}
 use Rattle.mp4_present.specs.format.ByBytes.{OpensWithin}
 use Rattle.mp4_present.specs.format.Denotes.{Denotes}
 use Rattle.mp4_head.specs.format.Head.{Kept}
 use Rattle.mp4_present.specs.format.Presentation.{IsWithinLimits, Track, Presentation, sample_total}
-use Rattle.mp4_present.specs.format.Judge.{judge}
 use Rattle.mp4_content.specs.format.Alignment.{AreAligned, listed}
 use Rattle.mp4_content.specs.format.LeadIns.{left_of, told, words_told}
 use Rattle.mp4_content.specs.format.Comparison.{differences}
@@ -14,28 +13,39 @@ use Rattle.mp4_content.specs.declared.comparing.differences.Difference.{Differen
 use Rattle.mp4_content.specs.declared.without.Without.{Without}
 use Rattle.mp4_content.specs.format.Words.{all_words}
 use Rattle.mp4_content.specs.format.CoveringLaws.{Covers}
+use Rattle.mp4_answers.specs.declared.commands.compare.Asked.{Asked}
 use Rattle.mp4_answers.specs.declared.commands.compare.Lines.{Lines}
 use Rattle.mp4_answers.specs.declared.commands.compare.Listing.{Listing}
 use Rattle.mp4_answers.specs.declared.commands.compare.Listing.TheVariants as listings
 use Rattle.mp4_answers.specs.declared.jobs.Syntax.{Syntax}
 use Rattle.mp4_answers.specs.declared.jobs.Syntax.TheVariants as syntaxes
+use Rattle.mp4_answers.specs.declared.selection.Selection.{Selection}
 use Rattle.mp4_answers.specs.format.AlignedLine.{alignment_line, alignment_object}
 use Rattle.mp4_answers.specs.format.DifferenceLine.{difference_line}
 use Rattle.mp4_answers.specs.format.DifferenceObject.{difference_object, last_object}
 use Rattle.mp4_answers.specs.format.Headline.{DenotesNothing}
 use Rattle.mp4_answers.specs.format.LastLine.{last_line}
-use Rattle.mp4_answers.specs.format.Steps.{FindsWithin, row_total, walked_each}
+use Rattle.mp4_answers.specs.format.Selected.{Shows}
+use Rattle.mp4_answers.specs.format.Steps.{FindsWithin, row_total, scaling_walks, telling_walks, walked_each}
 
--- Both files are judged to be a presentation, which is within the limits as it is told how long its
--- tracks wait, and the answer is whether the same is left of both.
-pub record IsVerdict (l : Without) (file other : List ℕ) (same : Bool) : Type 0 where
+-- what is looked at of the first file, and of the second
+abbrev pub of_first : Asked → Selection
+of_first asked = record { track = asked.first; leaving = asked.leaving }
+
+abbrev pub of_second : Asked → Selection
+of_second asked = record { track = asked.second; leaving = asked.leaving }
+
+-- What is looked at of both files is within the limits as it is told how long its tracks wait, and
+-- the answer is whether the same is left of both.
+pub record IsVerdict (asked : Asked) (file other : List ℕ) (same : Bool) : Type 0 where
   pub p : Presentation
   pub q : Presentation
-  pub first : judge file ≡ Ok p
-  pub second : judge other ≡ Ok q
-  pub first_shown : IsWithinLimits (told l.lead_ins p)
-  pub second_shown : IsWithinLimits (told l.lead_ins q)
-  pub is : AreBytes file → AreBytes other → (same ≡ true) ↔ (left_of l p ≡ left_of l q)
+  pub first : Shows asked.first file p
+  pub second : Shows asked.second other q
+  pub first_shown : IsWithinLimits (told asked.leaving.lead_ins p)
+  pub second_shown : IsWithinLimits (told asked.leaving.lead_ins q)
+  pub is : AreBytes file → AreBytes other
+      → (same ≡ true) ↔ (left_of asked.leaving p ≡ left_of asked.leaving q)
 
 -- ---- what is said of two files that differ
 
@@ -86,8 +96,7 @@ alignment_in syntaxes.Json a = alignment_object a
 -- Where tracks are aligned, how each two lie beside each other of which not the same samples are
 -- left; else none.
 abbrev pub AreToldAligned : Bool → Without → Presentation → Presentation → List Alignment → Type 0
-AreToldAligned true l p q found =
-    AreAligned (words_told l) 1 (told l.lead_ins p).tracks (told l.lead_ins q).tracks found
+AreToldAligned true l p q found = AreAligned l 1 p.tracks q.tracks found
 AreToldAligned false l p q found = found ≡ []
 
 -- how tracks lie beside each other, the first differences, as many as are asked for, and what is
@@ -105,20 +114,20 @@ TellsOf (listings.First syntax) l p q text = (first : Difference)
     × (slice_get (differences (left_of l p) (left_of l q)) 0 ≡ Some first)
     × (text ≡ difference_in syntax first)
 TellsOf (listings.All lines) l p q text = (found : List Alignment)
-    × AreToldAligned lines.aligned l p q found
+    × AreToldAligned lines.aligned (words_told l) (told l.lead_ins p) (told l.lead_ins q) found
     × (enough : Option Without) × AreEnough l p q enough
     × (text ≡ listing_text lines found
     (listed lines.aligned (left_of l p) (left_of l q)) enough)
 
--- The text tells of what the two files are judged to be.
-pub record IsTold (listing : Listing) (l : Without) (file other text : List ℕ) : Type 0 where
+-- The text tells of what is looked at of the two files.
+pub record IsTold (asked : Asked) (file other text : List ℕ) : Type 0 where
   pub p : Presentation
   pub q : Presentation
-  pub first : judge file ≡ Ok p
-  pub second : judge other ≡ Ok q
-  pub first_shown : IsWithinLimits (told l.lead_ins p)
-  pub second_shown : IsWithinLimits (told l.lead_ins q)
-  pub tells : AreBytes file → AreBytes other → TellsOf listing l p q text
+  pub first : Shows asked.first file p
+  pub second : Shows asked.second other q
+  pub first_shown : IsWithinLimits (told asked.leaving.lead_ins p)
+  pub second_shown : IsWithinLimits (told asked.leaving.lead_ins q)
+  pub tells : AreBytes file → AreBytes other → TellsOf asked.listing asked.leaving p q text
 
 -- such a text was put
 abbrev pub PutsSuch : (List ℕ → Type 0) → (List ℕ → Type 0) → Type 0
@@ -129,14 +138,6 @@ PutsSuch Took IsText = (text : List ℕ) × IsText text × Took text
 -- how many words there are behind `--without`
 abbrev pub word_count : ℕ
 word_count = length all_words
-
--- One more walk where timescales are left out: to find by what times are divided.
-abbrev pub scaling_walks : Without → ℕ
-scaling_walks l = if l.timescales then 1 else 0
-
--- and one where it is left out how tracks begin: to find how long they wait
-abbrev pub telling_walks : Without → ℕ
-telling_walks l = if l.lead_ins then 1 else 0
 
 -- to find what differs
 abbrev pub listing_walks : Without → ℕ

@@ -14,11 +14,11 @@ AreLong IsText n = (text : List ℕ) → IsText text → length text ≡ n
 -- The text that a job puts of a file has so many bytes. Those of other jobs are not measured: 0.
 abbrev pub HasLength : Job → List ℕ → ℕ → Type 0
 HasLength jobs.Normalise file n = AreLong (HasNormalForm file) n
-HasLength (jobs.Reduce l) file n = AreLong (HasReducedForm l file) n
+HasLength (jobs.Reduce s) file n = AreLong (HasReducedForm s file) n
 HasLength (jobs.Extract id) file n = AreLong (HasData file id) n
 HasLength (jobs.Strip names) file n = AreLong (IsStripped names.now file) n
 HasLength (jobs.Boxes syntax) file n = n ≡ 0
 HasLength (jobs.Fields syntax most) file n = n ≡ 0
 HasLength jobs.Show file n = n ≡ 0
 HasLength (jobs.Samples track form) file n = n ≡ 0
-HasLength (jobs.Print l) file n = n ≡ 0
+HasLength (jobs.Print s) file n = n ≡ 0

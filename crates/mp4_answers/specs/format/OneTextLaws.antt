@@ -1,9 +1,9 @@
 -- The laws of how many texts a job may put of a file: one.
 use Rattle.std.specs.Prelude.{◌≡◌, ℕ, List}
-use Rattle.mp4_content.specs.declared.without.Without.{Without}
 use Rattle.mp4_answers.specs.declared.box_names.Name.{Name}
 use Rattle.mp4_answers.specs.declared.jobs.Form.{Form}
 use Rattle.mp4_answers.specs.declared.jobs.BoxForm.{BoxForm}
+use Rattle.mp4_answers.specs.declared.selection.Selection.{Selection}
 use Rattle.mp4_answers.specs.format.FileTexts.{ShowsLine, ListsSamples, HasData, PrintsText}
 use Rattle.mp4_answers.specs.format.Headline.{HasNormalForm}
 use Rattle.mp4_answers.specs.format.ReducedHeadline.{HasReducedForm}
@@ -25,8 +25,8 @@ ListOfBoxesIsOne = (form : BoxForm) (file : List ℕ) → AtMostOne (FormLines f
 -- And one of each text that the commands put of what it is judged to be.
 pub record JudgedTextsAreOne : Type 0 where
   pub normal_form : (file : List ℕ) → AtMostOne (HasNormalForm file)
-  pub reduced_form : (l : Without) (file : List ℕ) → AtMostOne (HasReducedForm l file)
+  pub reduced_form : (s : Selection) (file : List ℕ) → AtMostOne (HasReducedForm s file)
   pub shown : (file : List ℕ) → AtMostOne (ShowsLine file)
   pub listed : (file : List ℕ) (id : ℕ) (form : Form) → AtMostOne (ListsSamples file id form)
   pub extracted : (file : List ℕ) (id : ℕ) → AtMostOne (HasData file id)
-  pub printed : (l : Without) (file : List ℕ) → AtMostOne (PrintsText l file)
+  pub printed : (s : Selection) (file : List ℕ) → AtMostOne (PrintsText s file)

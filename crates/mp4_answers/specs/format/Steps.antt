@@ -22,10 +22,17 @@ abbrev pub row_total : FileTree → ℕ
 row_total tree = sum_of (λ (t : TrackTree). table_rows (tables_of t.table)) tree.movie.tracks
     + sum_of (λ (f : FragmentTree). fragment_rows (fragment_of f)) tree.fragments
 
--- One walk more where timescales are left out, to find by what times are divided; and one where it
--- is left out how tracks begin, to find how long they wait.
+-- One more walk where timescales are left out: to find by what times are divided.
+abbrev pub scaling_walks : Without → ℕ
+scaling_walks l = if l.timescales then 1 else 0
+
+-- and one where it is left out how tracks begin: to find how long they wait
+abbrev pub telling_walks : Without → ℕ
+telling_walks l = if l.lead_ins then 1 else 0
+
+-- both
 abbrev pub more_walks : Without → ℕ
-more_walks l = (if l.lead_ins then 1 else 0) + (if l.timescales then 1 else 0)
+more_walks l = telling_walks l + scaling_walks l
 
 -- The steps for each sample and each row where this is left out. Where it is ends, timescales or
 -- where tracks begin, each track is walked over once more: what remains of all its samples has to

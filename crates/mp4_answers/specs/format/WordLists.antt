@@ -18,14 +18,14 @@ named_in (word ∷ more) name =
 
 -- the words of the named sets: what changes when the same media are packed another way, and all
 -- that there were with these
-abbrev pub packaging : List Word
-packaging = words.Times ∷ words.Edits ∷ words.Flags ∷ words.Groups ∷ words.Metadata
+abbrev pub packaging_1 : List Word
+packaging_1 = words.Times ∷ words.Edits ∷ words.Flags ∷ words.Groups ∷ words.Metadata
     ∷ words.Bitrates ∷ words.Ends ∷ words.Origins ∷ []
 
-abbrev pub media : List Word
-media = packaging ++ words.Labels ∷ words.Timing ∷ []
+abbrev pub media_1 : List Word
+media_1 = packaging_1 ++ words.Labels ∷ words.Timing ∷ []
 
--- those that don't change how sound and pictures keep step
+-- the same, but that these keep how long each track waits; and with names for people
 abbrev pub packaging_2 : List Word
 packaging_2 = words.Times ∷ words.Flags ∷ words.Groups ∷ words.Metadata ∷ words.Bitrates
     ∷ words.Ends ∷ words.Roles ∷ words.Ids ∷ words.Timescales ∷ words.LeadIns ∷ []
@@ -36,8 +36,8 @@ media_2 = words.Times ∷ words.Flags ∷ words.Groups ∷ words.Metadata ∷ wo
     ∷ words.LeadIns ∷ []
 
 abbrev pub set_named : List ℕ → Option (List Word)
-set_named name = if bytes_eq name (codes "packaging-1") then Some packaging
-    else if bytes_eq name (codes "media-1") then Some media
+set_named name = if bytes_eq name (codes "packaging-1") then Some packaging_1
+    else if bytes_eq name (codes "media-1") then Some media_1
     else if bytes_eq name (codes "packaging-2") then Some packaging_2
     else if bytes_eq name (codes "media-2") then Some media_2 else None
 

@@ -4,7 +4,7 @@ use Rattle.std.specs.Prelude.{◌≡◌, ◌⊎◌, ◌+◌, ◌*◌, ◌<◌, �
 use Rattle.mp4_store.specs.words.Device.{HasRisen, TakesPrefix}
 use Rattle.mp4_boxes.specs.declared.refusal.Refusal.{Refusal}
 use Rattle.mp4_boxes.specs.declared.refusal.Refusal.TheVariants as refusals
-use Rattle.mp4_content.specs.format.Alignment.{AreAligned, listed}
+use Rattle.mp4_content.specs.format.Alignment.{listed}
 use Rattle.mp4_content.specs.format.Comparison.{differences}
 use Rattle.mp4_content.specs.format.Remaining.{remaining}
 use Rattle.mp4_present.specs.format.Denotes.{FileTree}
@@ -15,7 +15,7 @@ use Rattle.mp4_content.specs.declared.comparing.differences.Difference.{Differen
 use Rattle.mp4_content.specs.declared.without.Word.{Word}
 use Rattle.mp4_content.specs.declared.without.Without.{Without}
 use Rattle.mp4_content.specs.format.CoveringLaws.{Covers}
-use Rattle.mp4_answers.specs.format.CompareHeadline.{alignment_in, difference_in, last_in, listing_text, most_counted}
+use Rattle.mp4_answers.specs.format.CompareHeadline.{AreToldAligned, alignment_in, difference_in, last_in, listing_text, most_counted}
 use Rattle.mp4_answers.specs.format.DifferenceObject.{last_object}
 use Rattle.mp4_answers.specs.words.SingleWords.{everything, less_word, single_words}
 use Rattle.mp4_answers.specs.declared.commands.compare.Lines.{Lines}
@@ -88,11 +88,6 @@ IsEnough given differ None = AreSome given differ None
 IsEnough given differ (Some least) = (l : Without) × AreSome given differ (Some l)
     × IsShrunk single_words given differ l least
 
--- where tracks are aligned, how each two lie beside each other of which not the same samples remain
-abbrev pub AreBeside : Bool → Without → Presentation → Presentation → List Alignment → Type 0
-AreBeside true l p q found = AreAligned l 1 p.tracks q.tracks found
-AreBeside false l p q found = found ≡ []
-
 -- Words that leave the same of movies that may be told how long their tracks wait, as they are
 -- asked for: origins go with how tracks begin.
 abbrev pub as_asked : Without → Without → Without
@@ -107,7 +102,7 @@ IsSaidOf (listings.First syntax) asked l p q text = (first : Difference)
     × (slice_get (differences (remaining l p) (remaining l q)) 0 ≡ Some first)
     × (text ≡ difference_in syntax first)
 IsSaidOf (listings.All lines) asked l p q text = (found : List Alignment)
-    × AreBeside lines.aligned l p q found
+    × AreToldAligned lines.aligned l p q found
     × (enough : Option Without)
     × IsEnough l (λ m. differences (remaining m p) (remaining m q)) enough
     × (text ≡ listing_text lines found

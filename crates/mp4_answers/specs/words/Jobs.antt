@@ -13,8 +13,8 @@ JobWorksWithin jobs.Show file old new = WalksWithin file old new
 JobWorksWithin (jobs.Samples track form) file old new = WalksWithin file old new
 JobWorksWithin (jobs.Extract track) file old new = WalksWithin file old new
 JobWorksWithin jobs.Normalise file old new = WorksWithin nothing file old new
-JobWorksWithin (jobs.Print l) file old new = PrintsWithin l file old new
-JobWorksWithin (jobs.Reduce l) file old new = WorksWithin l file old new
+JobWorksWithin (jobs.Print s) file old new = PrintsWithin s.leaving file old new
+JobWorksWithin (jobs.Reduce s) file old new = WorksWithin s.leaving file old new
 JobWorksWithin (jobs.Strip names) file old new = Unit {0}
 
 -- at least one for each sample and row, where they are counted
@@ -32,6 +32,6 @@ JobLooksWithin jobs.Show file old new = FindsWithin file old new
 JobLooksWithin (jobs.Samples track form) file old new = FindsWithin file old new
 JobLooksWithin (jobs.Extract track) file old new = FindsWithin file old new
 JobLooksWithin jobs.Normalise file old new = TurnsWithin file old new
-JobLooksWithin (jobs.Print l) file old new = FindsWithin file old new
-JobLooksWithin (jobs.Reduce l) file old new = TurnsWithin file old new
+JobLooksWithin (jobs.Print s) file old new = FindsWithin file old new
+JobLooksWithin (jobs.Reduce s) file old new = TurnsWithin file old new
 JobLooksWithin (jobs.Strip names) file old new = Unit {0}

@@ -1,6 +1,6 @@
--- A movie as a command looks at it: that of its file, or one whose edits say how long its tracks
--- wait. `S` is what a bound says of the store's type.
-use Rattle.std.specs.Prelude.{◌≡◌, ℕ, ◌+◌, ◌≤◌, Bool, true, if◌then◌else◌, List, Result, Err, None, Some, IsTrue, IfOk, IfErr}
+-- A movie as a command looks at it: that of its file, or of one track alone, or one whose edits say
+-- how long its tracks wait. `S` is what a bound says of the store's type.
+use Rattle.std.specs.Prelude.{◌≡◌, ℕ, ◌+◌, ◌≤◌, Bool, true, if◌then◌else◌, List, Result, Err, Option, None, Some, IsTrue, IfOk, IfErr}
 use Rattle.mp4_boxes.specs.declared.fault.Fault.{Fault}
 use Rattle.mp4_boxes.specs.declared.refusal.Refusal.{Refusal}
 use Rattle.mp4_boxes.specs.declared.refusal.Refusal.TheVariants as refusals
@@ -10,23 +10,30 @@ use Rattle.mp4_present.specs.format.ByBytes.{OpensWithin}
 use Rattle.mp4_present.specs.format.Denotes.{Denotes, FileTree, presentation_of}
 use Rattle.mp4_present.specs.format.Presentation.{Presentation}
 use Rattle.mp4_present.specs.words.Movies.{MovieSeen}
+use Rattle.mp4_present.specs.words.OneTrack.{only_tree}
 use Rattle.mp4_present.specs.words.OpenedMovie.{IsOpenedAs}
 use Rattle.mp4_present.specs.words.StoresRead.{IsUnchanged}
 use Rattle.mp4_present.specs.words.ToldTrees.{IsTold}
 use Rattle.mp4_present.specs.words.WalkSteps.{opening_steps, walks_steps}
-use Rattle.mp4_present.specs.words.Waits.{NamesLimitOf}
+use Rattle.mp4_present.specs.words.Waits.{NamesLimitOf, RefusesWaits}
 use Rattle.mp4_content.specs.format.LeadIns.{told}
 use Rattle.mp4_content.specs.words.Delays.{told_waits}
 use Rattle.mp4_answers.specs.format.Headline.{DenotesNothing}
+use Rattle.mp4_answers.specs.format.Selected.{AreOtherTracks, HasNamed, LacksNamed, alone, alone_tree}
 use Rattle.mp4_answers.specs.format.Told.{judge_told}
 
--- The file denotes a presentation, and the movie shows that one told how long its tracks wait, if
--- this is true.
-pub record IsOpenedTold (b : Bool) (file : List ℕ) (m : MovieSeen) (t : FileTree) : Type 0 where
-  pub p : Presentation
-  pub denotes : Denotes file p
+-- The movie shows what is looked at of the file: of a presentation that it denotes all tracks or
+-- one, told how long they wait, if this is true.
+pub record IsOpenedTold (track : Option ℕ) (b : Bool) (file : List ℕ) (m : MovieSeen)
+    (t : FileTree) : Type 0 where
+  pub whole : Presentation
+  pub denotes : Denotes file whole
+  pub has : HasNamed track whole
   pub opened : IsOpenedAs file m t
-  pub is_told : IsTold m.waits denotes.tree t
+  pub is_told : IsTold m.waits (only_tree m.only denotes.tree) t
+  pub alone_is : only_tree m.only denotes.tree ≡ alone_tree track denotes.tree
+  pub p : Presentation
+  pub is : p ≡ alone track whole
   pub says : presentation_of file t ≡ told b p
 
 -- the steps of opening a file so: those of its boxes, and of a walk to find how long tracks wait
@@ -39,14 +46,17 @@ pub record OpensWithinTold (b : Bool) (file : List ℕ) (old new : ℕ) : Type 0
   pub refused : DenotesNothing file → OpensWithin file old new
 
 -- Why a file is not opened so: the fault is its first, or that of the first limit that it passes
--- where it is told so.
-abbrev pub RefusesTold : Bool → Bool → List ℕ → ℕ → ℕ → Refusal → Type 0
-RefusesTold b honest file reads reads_after (refusals.Fault f) = IsTrue honest
-    → judge_told b file ≡ Err f
-RefusesTold b honest file reads reads_after refusals.Memory = Unit {0}
-RefusesTold b honest file reads reads_after refusals.StoreFailed = HasRisen reads reads_after
-RefusesTold b honest file reads reads_after refusals.StoreChanged = IsTrue honest → ⊥
-RefusesTold b honest file reads reads_after _ = ⊥
+-- where it is told so; or a track is named that isn't there.
+abbrev pub RefusesTold : Option ℕ → Bool → Bool → List ℕ → ℕ → ℕ → Refusal → Type 0
+RefusesTold track b honest file reads reads_after (refusals.Fault f) = IsTrue honest
+    → judge_told track b file ≡ Err f
+RefusesTold track b honest file reads reads_after refusals.Memory = Unit {0}
+RefusesTold track b honest file reads reads_after refusals.StoreFailed =
+    HasRisen reads reads_after
+RefusesTold track b honest file reads reads_after refusals.StoreChanged = IsTrue honest → ⊥
+RefusesTold track b honest file reads reads_after refusals.NoSuchTrack =
+    LacksNamed track honest file
+RefusesTold track b honest file reads reads_after _ = ⊥
 
 -- why an opened movie is not told how long its tracks wait
 abbrev pub RefusesTell : ℕ → ℕ → Refusal → Type 0
@@ -63,11 +73,19 @@ NamesTold file tree (refusals.Fault f) = (waits : List ℕ)
     × NamesLimitOf file waits tree (refusals.Fault f)
 NamesTold file tree _ = Unit {0}
 
+-- the movie shows what was opened, told how long its tracks wait
+pub record IsTellingOf (file : List ℕ) (own : MovieSeen) (tree : FileTree) (m : MovieSeen)
+    : Type 0 where
+  pub t : FileTree
+  pub opened : IsOpenedAs file m t
+  pub only : m.only ≡ own.only
+  pub is_told : IsTold m.waits tree t
+  pub says : presentation_of file t ≡ told true (presentation_of file tree)
+
 -- what a movie is told that was opened from this file, and what it takes to find it
-pub record TellsOver (file : List ℕ) (tree : FileTree) (result : Result MovieSeen Refusal)
-    (old new : ℕ) : Type 0 where
-  pub movie : IfOk result (λ m. (t : FileTree) × IsOpenedAs file m t × IsTold m.waits tree t
-      × (presentation_of file t ≡ told true (presentation_of file tree)))
+pub record TellsOver (file : List ℕ) (own : MovieSeen) (tree : FileTree)
+    (result : Result MovieSeen Refusal) (old new : ℕ) : Type 0 where
+  pub movie : IfOk result (IsTellingOf file own tree)
   pub fault : IfErr result (NamesTold file tree)
   pub unchanged : IsUnchanged result
   pub work : new ≤ old + walks_steps tree
@@ -77,4 +95,26 @@ abbrev pub TellsMovie : {X : Type 0} → Store X → X → MovieSeen → Result 
     → Type 0
 TellsMovie S store m result old new = IsTrue (S.is_honest store) → (tree : FileTree)
     → IsOpenedAs (S.file store) m tree → m.waits ≡ None
-    → TellsOver (S.file store) tree result old new
+    → TellsOver (S.file store) m tree result old new
+
+-- ---- one track alone
+
+-- The movie shows what was opened, all of its tracks or that with this ID alone, which is there.
+pub record IsAloneOf (track : Option ℕ) (file : List ℕ) (tree : FileTree) (m : MovieSeen)
+    : Type 0 where
+  pub opened : IsOpenedAs file m (only_tree m.only tree)
+  pub own_edits : m.waits ≡ None
+  pub is : only_tree m.only tree ≡ alone_tree track tree
+  pub has : HasNamed track (presentation_of file tree)
+
+-- why that is not shown: no track has the ID
+abbrev pub LacksAlone : Option ℕ → Presentation → Refusal → Type 0
+LacksAlone (Some id) p refusals.NoSuchTrack = AreOtherTracks id p
+LacksAlone (Some id) p refusals.Memory = Unit {0}
+LacksAlone _ p _ = ⊥
+
+-- the same, where nothing is known of the movie
+abbrev pub RefusesAlone : Option ℕ → Refusal → Type 0
+RefusesAlone (Some id) refusals.NoSuchTrack = Unit {0}
+RefusesAlone (Some id) r = RefusesWaits r
+RefusesAlone None r = ⊥

@@ -11,9 +11,10 @@ use Rattle.mp4_present.specs.words.Movies.{MovieSeen}
 use Rattle.mp4_present.specs.words.StoresRead.{OnlyReads}
 use Rattle.mp4_content.specs.declared.comparing.differences.Difference.{Difference}
 use Rattle.mp4_content.specs.declared.without.Without.{Without}
+use Rattle.mp4_answers.specs.declared.commands.compare.Asked.{Asked}
 use Rattle.mp4_answers.specs.declared.commands.compare.Failure.{Failure}
 use Rattle.mp4_answers.specs.words.OpenedTold.{RefusesTold}
-use Rattle.mp4_answers.specs.words.Compares.{PutsAnswer, RefusesBoth, RefusesCompare}
+use Rattle.mp4_answers.specs.words.Compares.{PutsAnswer, RefusesBoth, RefusesCompare, is_silent}
 use Rattle.mp4_answers.specs.words.StoreAndSink.{NoPutFails}
 
 -- what differs between two files, by what is left out of both
@@ -34,11 +35,13 @@ OfDenoted S a m T b n P = WhereOpenedBoth S a m T b n
     (λ tree other. P (presentation_of (S.file a) tree) (presentation_of (T.file b) other))
 
 -- why two files are not compared, and for which of them
-abbrev pub FailsCompare : {X Y Z R : Type 0} → Bool → Store X → X → X → Store Y → Y → Y
+abbrev pub FailsCompare : {X Y Z R : Type 0} → Asked → Store X → X → X → Store Y → Y → Y
     → Sink Z → Z → Z → Result R Failure → Type 0
-FailsCompare tells S a a_after T b b_after K sink sink_after result = IfErr result (RefusesCompare
-    (RefusesTold tells (S.is_honest a) (S.file a) (S.read_failures a) (S.read_failures a_after))
-    (RefusesTold tells (T.is_honest b) (T.file b) (T.read_failures b) (T.read_failures b_after))
+FailsCompare asked S a a_after T b b_after K sink sink_after result = IfErr result (RefusesCompare
+    (RefusesTold asked.first asked.leaving.lead_ins
+    (S.is_honest a) (S.file a) (S.read_failures a) (S.read_failures a_after))
+    (RefusesTold asked.second asked.leaving.lead_ins
+    (T.is_honest b) (T.file b) (T.read_failures b) (T.read_failures b_after))
     (RefusesBoth (S.is_honest a) (T.is_honest b) (S.read_failures a) (S.read_failures a_after)
     (T.read_failures b) (T.read_failures b_after))
     (K.takes sink sink_after) (K.put_failures sink) (K.put_failures sink_after))
@@ -55,10 +58,10 @@ pub record ReadsBoth {X Y R : Type 0} (S : Store X) (a a_after : X) (T : Store Y
 -- nothing is said of that, nothing is put; where something is, the object that says so; else some
 -- text. Or they are not compared, for a reason of the file that is named.
 pub record ComparesBoth {X Y Z : Type 0} (S : Store X) (a a_after : X) (T : Store Y)
-    (b b_after : Y) (K : Sink Z) (to to_after : Z) (l : Without) (silent : Bool)
+    (b b_after : Y) (K : Sink Z) (to to_after : Z) (asked : Asked)
     (result : Result Bool Failure) : Type 0 where
   pub left : OnlyReads S a a_after result
   pub right : OnlyReads T b b_after result
   pub puts : NoPutFails K to to_after result
-  pub put : IfOk result (PutsAnswer l silent (K.takes to to_after))
-  pub refusal : FailsCompare l.lead_ins S a a_after T b b_after K to to_after result
+  pub put : IfOk result (PutsAnswer asked.leaving (is_silent asked.listing) (K.takes to to_after))
+  pub refusal : FailsCompare asked S a a_after T b b_after K to to_after result

@@ -19,5 +19,5 @@ pub record PutsWhole (l : Without) (Took : List ℕ → Type 0) : Type 0 where
 -- of the jobs that write a normal form
 abbrev pub JobPutsWhole : Job → (List ℕ → Type 0) → Type 0
 JobPutsWhole jobs.Normalise Took = PutsWhole nothing Took
-JobPutsWhole (jobs.Reduce l) Took = PutsWhole l Took
+JobPutsWhole (jobs.Reduce s) Took = PutsWhole s.leaving Took
 JobPutsWhole _ Took = Unit {0}

@@ -12,8 +12,8 @@ ghost use Rattle.mp4_present.specs.words.StoresRead.{OnlyReads, WhereRead};
 use crate::commands::opening::open_told;
 use crate::commands::tracks::track_with;
 use crate::jobs::Job;
+use crate::selection::Selection;
 use mp4_boxes::{Refusal, Steps};
-use mp4_content::Without;
 use mp4_plan::{normal_len, reduced_len};
 use mp4_present::open_movie;
 use mp4_store::Store;
@@ -56,17 +56,17 @@ fn form_len<S: Store, L: Ledger, M: Ledger>(
 fn form_left_len<S: Store, L: Ledger, M: Ledger>(
     alloc: Global,
     store: &mut S,
-    leaving: Without,
+    selection: Selection,
     steps: &mut Steps<L, M>,
 ) -> Result<u64, Refusal>
     ensures store { OnlyReads S.Store store.old store.new result }
     ensures length { WhereRead S.Store store.old result
-        (λ file. AreLong (HasReducedForm leaving file)) }
+        (λ file. AreLong (HasReducedForm selection file)) }
     ensures refusal { IfErr result
-        (RefusesJob (jobs.Reduce leaving) (look_of S.Store store.old store.new)) }
+        (RefusesJob (jobs.Reduce selection) (look_of S.Store store.old store.new)) }
 {
-    let movie = open_told(alloc, store, leaving, steps)?;
-    let words = leaving.when_told();
+    let movie = open_told(alloc, store, selection, steps)?;
+    let words = selection.leaving.when_told();
     reduced_len(alloc, &movie, store, words, steps)
 }
 
@@ -87,7 +87,7 @@ pub fn text_len<S: Store, L: Ledger, M: Ledger>(
         Job::Strip { .. } => Ok(store.len()),
         Job::Extract { track } => data_len(alloc, store, track, steps),
         Job::Normalise => form_len(alloc, store, steps),
-        Job::Reduce { leaving } => form_left_len(alloc, store, leaving, steps),
+        Job::Reduce { selection } => form_left_len(alloc, store, selection, steps),
         Job::Boxes { .. }
         | Job::Fields { .. }
         | Job::Show

@@ -2,9 +2,9 @@
 ghost use Rattle.std.specs.Prelude.{◌≡◌, ◌&&◌, not, ◌*◌, ◌<◌, ◌≤◌, [], ◌∷◌, length, option_map, take, Some, true, false, IfOk, IfErr, IfSome, OnOk};
 ghost use Rattle.mp4_answers.specs.declared.commands.compare.Listing.TheVariants.{All};
 ghost use Rattle.mp4_answers.specs.format.Steps.{TakesEachOfBoth};
-ghost use Rattle.mp4_answers.specs.format.CompareHeadline.{IsVerdict, IsTold, aligned_walks, difference_in, listing_walks, opened_walks, PutsSuch, ComparesWithin, FindsBothWithin, trying_walks};
+ghost use Rattle.mp4_answers.specs.format.CompareHeadline.{AreToldAligned, IsVerdict, IsTold, aligned_walks, difference_in, listing_walks, opened_walks, PutsSuch, ComparesWithin, FindsBothWithin, trying_walks};
 ghost use Rattle.mp4_answers.specs.format.DifferenceObject.{last_object};
-ghost use Rattle.mp4_answers.specs.words.Compares.{AreBeside, as_asked, side_of, says_nothing, is_silent, AddsAligned, AddsLines, AddsLast, IsCounted, AreSome, IsEnough, IsTried, IsShrunk, IsSameWith, IsFoundOf, IsSaid, ListsFront, PutsAnswer, PutsFound, PutsSame, WalksTimes, RefusesAnswer};
+ghost use Rattle.mp4_answers.specs.words.Compares.{as_asked, side_of, says_nothing, is_silent, AddsAligned, AddsLines, AddsLast, IsCounted, AreSome, IsEnough, IsTried, IsShrunk, IsSameWith, IsFoundOf, IsSaid, ListsFront, PutsAnswer, PutsFound, PutsSame, WalksTimes, RefusesAnswer};
 ghost use Rattle.mp4_present.specs.words.StoresRead.{IsUnchanged, WhereBothHonest};
 ghost use Rattle.mp4_answers.specs.words.StoreAndSink.{NoPutFails};
 ghost use Rattle.mp4_content.specs.format.Words.{has};
@@ -14,6 +14,7 @@ ghost use Rattle.mp4_answers.specs.words.TwoFiles.{ComparesBoth, OfBoth, OfDenot
 use crate::commands::guesses::guess;
 use crate::commands::opening::open_told;
 use crate::jobs::Syntax;
+use crate::selection::Selection;
 use crate::text::aligned_lines::{say_alignment, say_alignment_object};
 use crate::text::difference_json::{say_difference_object, say_last_object};
 use crate::text::difference_lines::say_difference;
@@ -44,9 +45,12 @@ pub enum Listing {
     All(Lines),
 }
 
-/// What is asked of a comparison: what is left out of both files, and how it is told of.
+/// What is asked of a comparison: which track of each file is looked at, where that is one alone,
+/// by its ID (8.3.2); what is left out of both; and how it is told of.
 #[derive(Clone, Copy)]
 pub struct Asked {
+    pub first: Option<u32>,
+    pub second: Option<u32>,
     pub leaving: Without,
     pub listing: Listing,
 }
@@ -326,7 +330,7 @@ fn alignments_of<S: Store, T: Store, L: Ledger, M: Ledger>(
     ensures stores { ReadsBoth S.Store left.old left.new T.Store right.old right.new result }
     ensures found { OfDenoted S.Store left.old files.now.movies.left
         T.Store right.old files.now.movies.right
-        (λ p q. IfOk result (λ found. AreBeside aligned files.now.given p q found.items)) }
+        (λ p q. IfOk result (λ found. AreToldAligned aligned files.now.given p q found.items)) }
     ensures opened { WhereOpenedBoth S.Store left.old files.now.movies.left
         T.Store right.old files.now.movies.right
         (λ tree other. IsUnchanged result
@@ -654,13 +658,13 @@ pub fn compare_files<S: Store, T: Store, K: Sink, L: Ledger, M: Ledger>(
     steps: &mut Steps<L, M>,
 ) -> Result<bool, Failure>
     ensures answer { ComparesBoth S.Store left.old left.new T.Store right.old right.new
-        K.Sink sink.old sink.new asked.leaving (is_silent asked.listing) result }
+        K.Sink sink.old sink.new asked result }
     ensures verdict { IfOk result (λ same. WhereBothHonest S.Store left.old T.Store right.old
-        (λ file other. IsVerdict asked.leaving file other same)) }
+        (λ file other. IsVerdict asked file other same)) }
     ensures told { IfOk result (λ same. same ≡ false
         → WhereBothHonest S.Store left.old T.Store right.old
         (λ file other.
-        PutsSuch (K.takes sink.old sink.new) (IsTold asked.listing asked.leaving file other))) }
+        PutsSuch (K.takes sink.old sink.new) (IsTold asked file other))) }
     ensures work { WhereBothHonest S.Store left.old T.Store right.old
         (λ file other. ComparesWithin asked.leaving asked.listing file other
         steps.old.passed steps.new.passed) }
@@ -669,12 +673,24 @@ pub fn compare_files<S: Store, T: Store, K: Sink, L: Ledger, M: Ledger>(
     ensures looks { WhereBothHonest S.Store left.old T.Store right.old
         (λ file other. FindsBothWithin file other steps.old.looks steps.new.looks) }
 {
-    let Asked { leaving, listing } = asked;
-    let first = match open_told(alloc, left, leaving, steps) {
+    let Asked {
+        leaving,
+        listing,
+        ..
+    } = asked;
+    let shown = Selection {
+        track: asked.first,
+        leaving,
+    };
+    let first = match open_told(alloc, left, shown, steps) {
         Ok(first) => first,
         Err(refusal) => return Err(failed(Side::First, refusal)),
     };
-    let second = match open_told(alloc, right, leaving, steps) {
+    let shown = Selection {
+        track: asked.second,
+        leaving,
+    };
+    let second = match open_told(alloc, right, shown, steps) {
         Ok(second) => second,
         Err(refusal) => return Err(failed(Side::Second, refusal)),
     };

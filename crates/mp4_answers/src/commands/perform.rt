@@ -51,8 +51,8 @@ pub fn perform<S: Store, K: Sink, L: Ledger, M: Ledger>(
         Job::Extract { track } => extract_counted(alloc, store, track, sink, steps),
         Job::Strip { names } => strip(alloc, store, names, sink),
         Job::Normalise => normalise_counted(alloc, store, sink, steps),
-        Job::Print { leaving } => print(alloc, store, sink, leaving, steps),
-        Job::Reduce { leaving } => normalise_reduced(alloc, store, sink, leaving, steps),
+        Job::Print { selection } => print(alloc, store, sink, selection, steps),
+        Job::Reduce { selection } => normalise_reduced(alloc, store, sink, selection, steps),
     }
 }
 

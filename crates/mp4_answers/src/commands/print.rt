@@ -27,6 +27,7 @@ use crate::commands::sample_messages::{MOST, NO_SAMPLE, read_front, take_samples
 use crate::digests::DIGEST;
 use crate::digests::messages::Message;
 use crate::digests::side_by_side::find_digests;
+use crate::selection::Selection;
 use crate::text::head_lines::{put_head, put_heading, put_movie};
 use crate::text::named_lines::{number, put_all_named};
 use crate::text::sample_texts::{LONGEST, SampleStyle, write_sample};
@@ -494,33 +495,35 @@ fn put_tracks<S: Store, K: Sink, L: Ledger, M: Ledger>(
     Ok(())
 }
 
-/// Puts the text of what is left of a file: a line for each value that its movie, its tracks and
-/// their samples have, with the digest of each sample's bytes. The whole file is judged, also as it
-/// is told how long its tracks wait, and all memory is taken, before the first line is put.
+/// Puts the text of what is left of what is selected of a file: a line for each value that its
+/// movie, its tracks and their samples have, with the digest of each sample's bytes. The whole file
+/// is judged, what is selected also as it is told how long its tracks wait, and all memory is
+/// taken, before the first line is put. If no track has the ID that is named, it is NoSuchTrack.
 pub fn print<S: Store, K: Sink, L: Ledger, M: Ledger>(
     alloc: Global,
     store: &mut S,
     sink: &mut K,
-    leaving: Without,
+    selection: Selection,
     steps: &mut Steps<L, M>,
 ) -> Result<(), Refusal>
     ensures store { KeepsFile S.Store store.old store.new }
-    ensures answer { Printed leaving (run_of S.Store store.old store.new K.Sink sink.old sink.new)
+    ensures answer { Printed selection
+        (run_of S.Store store.old store.new K.Sink sink.old sink.new)
         result }
     ensures work { WhereHonest S.Store store.old
-        (λ file. PrintsWithin leaving file steps.old.passed steps.new.passed) }
+        (λ file. PrintsWithin selection.leaving file steps.old.passed steps.new.passed) }
     ensures least { OnOk result (WhereHonest S.Store store.old (λ file.
         TakesEach file steps.old.passed steps.new.passed)) }
     ensures looks { WhereHonest S.Store store.old
         (λ file. FindsWithin file steps.old.looks steps.new.looks) }
 {
-    let movie = open_told(alloc, store, leaving, steps)?;
-    let words = leaving.when_told();
+    let movie = open_told(alloc, store, selection, steps)?;
+    let words = selection.leaving.when_told();
     let scales = Scales::of(alloc, &movie, store, words, steps)?;
     let head = movie.head(alloc)?;
     let own = payloads_left(alloc, words, head.tracks.as_slice())?;
     let left = head_left(alloc, head, words, &scales, &own)?;
-    let front = front_lines(alloc, leaving)?;
+    let front = front_lines(alloc, selection.leaving)?;
     let mut walks = walks_of(alloc, &movie)?;
     let mut desk = Desk::new(alloc)?;
     desk.text.carry(front.as_slice(), sink)?;

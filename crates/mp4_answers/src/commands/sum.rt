@@ -8,8 +8,8 @@ ghost use Rattle.mp4_present.specs.words.StoresRead.{WhereHonest};
 use crate::commands::hash_sink::HashSink;
 use crate::commands::normalise_reduced::normalise_reduced;
 use crate::digests::DIGEST;
+use crate::selection::Selection;
 use mp4_boxes::{Refusal, Steps};
-use mp4_content::Without;
 use mp4_present::OutBuffer;
 use mp4_store::Store;
 use std::alloc::Global;
@@ -18,25 +18,25 @@ use std::sync::ledger::Ledger;
 /// How many bytes are hashed at once.
 const ROOM: usize = 65_536;
 
-/// The SHA-256 of the normal form of what is left of the file. It is that of what
-/// `normalise_reduced` puts, and is refused where that is.
+/// The SHA-256 of the normal form of what is left of what is selected of the file. It is that of
+/// what `normalise_reduced` puts, and is refused where that is.
 pub fn sum_file<S: Store, L: Ledger, M: Ledger>(
     alloc: Global,
     store: &mut S,
-    leaving: Without,
+    selection: Selection,
     steps: &mut Steps<L, M>,
 ) -> Result<[u8; DIGEST], Refusal>
     ensures store { KeepsFile S.Store store.old store.new }
-    ensures answer { Summed leaving (look_of S.Store store.old store.new) result }
+    ensures answer { Summed selection (look_of S.Store store.old store.new) result }
     ensures work { WhereHonest S.Store store.old (λ file.
-        WorksWithin leaving file steps.old.passed steps.new.passed) }
+        WorksWithin selection.leaving file steps.old.passed steps.new.passed) }
     ensures least { OnOk result (WhereHonest S.Store store.old (λ file.
         TakesEach file steps.old.passed steps.new.passed)) }
     ensures looks { WhereHonest S.Store store.old
         (λ file. TurnsWithin file steps.old.looks steps.new.looks) }
 {
     let mut sink = HashSink::new();
-    normalise_reduced(alloc, store, &mut sink, leaving, steps)?;
+    normalise_reduced(alloc, store, &mut sink, selection, steps)?;
     Ok(sink.digest())
 }
 

@@ -2,7 +2,7 @@
 ghost use Rattle.std.specs.Prelude.{◌≡◌, ◌<◌, length, map, slice_get, IfOk, IfErr, IfSome};
 ghost use Rattle.mp4_boxes.specs.declared.refusal.Refusal.TheVariants as refusals;
 ghost use Rattle.mp4_present.specs.declared.track_info.TrackInfo.{TrackInfo};
-ghost use Rattle.mp4_answers.specs.format.FileTexts.{AreOthers};
+ghost use Rattle.mp4_answers.specs.format.Selected.{AreOthers};
 
 use mp4_boxes::Refusal;
 use mp4_present::TrackInfo;

@@ -1,4 +1,4 @@
--- What a movie says of itself, where tracks wait or don't.
+-- What a movie says of itself, where all tracks are shown or one, and wait or don't.
 use Rattle.std.specs.Prelude.{◌≡◌, ℕ, List, map, slice_get, unwrap_or, Option, None, Some, codes}
 use Rattle.mp4_head.specs.format.Head as heads
 use Rattle.mp4_head.specs.format.Tree.{MovieTree, TrackTree, first_of, head_of}
@@ -8,6 +8,7 @@ use Rattle.mp4_head.specs.declared.heads.MovieHead.{MovieHead}
 use Rattle.mp4_head.specs.declared.heads.TrackHead.{TrackHead}
 use Rattle.mp4_present.specs.format.Waiting.{waiting_heads, waiting_movie}
 use Rattle.mp4_present.specs.words.Movies.{MovieSeen, moov_box}
+use Rattle.mp4_present.specs.words.OneTrack.{only_head, shown_at}
 
 -- where the `tkhd` of each of these heads stands
 abbrev pub places_of : List TrackHead → List ℕ
@@ -25,12 +26,12 @@ waiting_or (Some waits) h = record h {
   tracks = waiting_heads waits h.tracks;
 }
 
--- what is read of the movie's `moov`, and then where its tracks wait
+-- what is read of the movie's `moov`, of the tracks that are shown, and then where they wait
 pub record SaysMovie (m : MovieSeen) (head : MovieHead) : Type 0 where
   pub own : MovieHead
   pub says : SaysHead (moov_box m) own
-  pub seen : head_seen head ≡ waiting_or m.waits (head_seen own)
-  pub places : places_of head.tracks.items ≡ places_of own.tracks.items
+  pub seen : head_seen head ≡ waiting_or m.waits (only_head m.only (head_seen own))
+  pub places : places_of head.tracks.items ≡ shown_at m.only (places_of own.tracks.items)
 
 -- where the `tkhd` of a track stands
 abbrev pub place_of : TrackTree → ℕ

@@ -6,7 +6,6 @@ use Rattle.mp4_tables.specs.words.Accepted.{IsAccepted, IsPlace}
 use Rattle.mp4_tables.specs.words.Keys.{keys_seen}
 use Rattle.mp4_tables.specs.words.TablesSeen.{TablesSeen}
 use Rattle.mp4_tables.specs.declared.sample.SampleAt.{SampleAt}
-use Rattle.mp4_frag.specs.words.States.{HaveRoom}
 use Rattle.mp4_frag.specs.words.PlacesIn.{IsPlaceIn}
 use Rattle.mp4_frag.specs.words.FragmentsSeen.{CursorSeen}
 use Rattle.mp4_frag.specs.words.Walks.{samples_coming, samples_in}
@@ -47,11 +46,12 @@ pub record MovieSeen : Type 0 where
   pub longest : ℕ
   pub tables : List TrackTables
   pub states : List TrackState
-  pub room : ℕ
   pub tracks : List TrackInfo
   -- for each track in order, which `traf`s have samples of it
   pub own : List OwnSeen
   pub mehd : ℕ
+  -- which track of the `moov` is shown, by its place, where it is one alone
+  pub only : Option ℕ
   -- how long each track waits, where that is said in the place of the movie's own edits
   pub waits : Option (List ℕ)
 
@@ -83,8 +83,6 @@ pub record IsMovie (m : MovieSeen) : Type 0 where
   pub each_tables : length m.tables ≡ length m.tracks
   pub each_state : length m.states ≡ length m.tracks
   pub each_own : length m.own ≡ length m.tracks
-  pub states : HaveRoom m.room m.states
-  pub few : m.room ≤ 2 ^ 24
   pub short : m.file_len < 2 ^ 64
 
 -- the `moov` that is kept

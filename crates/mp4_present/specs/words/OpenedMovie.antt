@@ -1,5 +1,5 @@
 -- What an opened movie is of the file that it was opened from.
-use Rattle.std.specs.Prelude.{◌≡◌, ℕ, ◌+◌, ◌-◌, ◌^◌, ◌<◌, min, List, [], ◌∷◌, ⊤, length, map, Option, None, true, codes}
+use Rattle.std.specs.Prelude.{◌≡◌, ℕ, ◌-◌, ◌^◌, ◌<◌, min, List, [], ◌∷◌, ⊤, length, map, Option, None, true, IsTrue, codes}
 use Rattle.std.specs.List.{AllByRecursion, AllZip}
 use Rattle.mp4_boxes.specs.format.Bytes.{sum_of, AreBytes}
 use Rattle.mp4_boxes.specs.format.Box.{box_container, file_container}
@@ -8,18 +8,20 @@ use Rattle.mp4_boxes.specs.declared.rule.Rule.TheVariants as rules
 use Rattle.mp4_tables.specs.words.Accepted.{tables_at}
 use Rattle.mp4_tables.specs.words.Keys.{keys_seen}
 use Rattle.mp4_tables.specs.format.PlainSamples.{PlacedSample}
+use Rattle.mp4_tables.specs.format.TableRules.{Fit}
 use Rattle.mp4_tables.specs.format.Tables.{tables_of}
 use Rattle.mp4_frag.specs.format.Fragments.{FragmentTree, IsFragmentTree}
-use Rattle.mp4_frag.specs.format.FragmentSamples.{trex_for, duration_of, keys_behind, bytes_of}
-use Rattle.mp4_frag.specs.words.Judged.{TrackSeen, track_seen}
+use Rattle.mp4_frag.specs.format.FragmentSamples.{Part, trex_for, duration_of, keys_behind, bytes_of}
+use Rattle.mp4_frag.specs.format.FragmentRules.{is_within}
+use Rattle.mp4_frag.specs.words.Judged.{AreTrexesOf, IsGrouped, TrackSeen, is_known_among, track_seen}
 use Rattle.mp4_present.specs.words.OwnTrafs.{own_seen, AreOwn}
 use Rattle.mp4_frag.specs.declared.trex.Trex.{Trex}
 use Rattle.mp4_head.specs.format.Head as heads
 use Rattle.mp4_head.specs.format.Tree.{TrackTree, are_distinct, stbl_of, track_head_of, trexes_of}
-use Rattle.mp4_present.specs.format.Presentation.{Track, Presentation, IsWithinLimits, max_samples, movie_length, total_duration}
-use Rattle.mp4_present.specs.format.Denotes.{FileTree, Denotes, IsFileTree, IsSoundFile, IsSoundFragment, IsConsistent, begins_with_movie, plain_of, plain_keys, file_parts, parts_of_track, placed_of, track_of, presentation_of}
-use Rattle.mp4_present.specs.format.Stands.{table_total}
+use Rattle.mp4_present.specs.format.Presentation.{Track, Presentation, IsWithinLimits, movie_length, total_duration}
+use Rattle.mp4_present.specs.format.Denotes.{FileTree, Denotes, IsFileTree, IsSoundFile, IsSoundFragment, IsConsistent, begins_with_movie, plain_of, plain_keys, file_parts, parts_of_track, placed_of, surroundings, track_of, presentation_of}
 use Rattle.mp4_present.specs.words.Movies.{MovieSeen, moov_box, table_bytes}
+use Rattle.mp4_present.specs.words.OneTrack.{only_tree}
 use Rattle.mp4_present.specs.words.Outline.{longest}
 use Rattle.mp4_present.specs.words.ToldTrees.{IsTold}
 use Rattle.mp4_frag.specs.declared.state.TrackState.{TrackState}
@@ -89,9 +91,10 @@ pub record IsTreeOf (file : List ℕ) (t : FileTree) : Type 0 where
   pub is_consistent : IsConsistent file t
   pub bytes : AreOfBytes t
 
--- it is that, or the same but for how long tracks are told to wait
-unfoldable pub IsShownOf : List ℕ → Option (List ℕ) → FileTree → Type 0
-IsShownOf file waits t = (own : FileTree) × IsTreeOf file own × IsTold waits own t
+-- it is that, or the same with one track alone, but for how long tracks are told to wait
+unfoldable pub IsShownOf : List ℕ → Option ℕ → Option (List ℕ) → FileTree → Type 0
+IsShownOf file only waits t = (own : FileTree) × IsTreeOf file own
+    × IsTold waits (only_tree only own) t
 
 -- a `trak` has these boxes
 abbrev pub HoldsTrack : TrackTree → Type 0
@@ -115,13 +118,27 @@ pub record IsReadSound (t : FileTree) : Type 0 where
   pub track_ids : are_distinct
       (map (λ (h : heads.TrackHead). h.id) (map track_head_of t.movie.tracks)) ≡ true
 
--- This is what is kept of a movie, whose tracks wait or don't: a presentation of its boxes, or of
--- those that say how long they wait.
+-- The samples of its tracks can be handed out: their tables fit; and each `traf` of the file is of
+-- a track that was known, its samples lie in the file, and they are grouped.
+pub record CanHandOut (file : List ℕ) (t : FileTree) : Type 0 where
+  pub tables : AllByRecursion (λ (track : TrackTree).
+      Fit (surroundings file track) (tables_of track.table)) t.movie.tracks
+  -- what was known of the tracks of the file
+  pub known : List TrackState
+  pub defaults : AreTrexesOf (trexes_of t.movie) known
+  pub parts : AllByRecursion (λ (part : Part). IsTrue (is_known_among known part)) (file_parts t)
+  pub places : AllByRecursion
+      (λ (part : Part). AllByRecursion (λ run. IsTrue (is_within (length file) run)) part.runs)
+      (file_parts t)
+  pub groups : AllByRecursion IsGrouped (file_parts t)
+
+-- This is what is kept of a movie, of which all tracks are shown or one, that wait or don't: a
+-- presentation of its boxes, or of those that say how long they wait.
 pub record IsOpenedAs (file : List ℕ) (m : MovieSeen) (t : FileTree) : Type 0 where
-  pub shown : IsShownOf file m.waits t
+  pub shown : IsShownOf file m.only m.waits t
   pub is_tree : IsReadTree file t
   pub is_sound : IsReadSound t
-  pub is_consistent : IsConsistent file t
+  pub hands_out : CanHandOut file t
   pub limits : IsWithinLimits (presentation_of file t)
   pub whole : m.file_len ≡ length file
   pub moov : moov_box m ≡ t.movie.moov
@@ -129,14 +146,14 @@ pub record IsOpenedAs (file : List ℕ) (m : MovieSeen) (t : FileTree) : Type 0 
   -- for each track in order
   pub tables : AllZip (AreTablesOf m.moov) t.movie.tracks m.tables
   pub states : map track_seen m.states ≡ map (plain_seen (trexes_of t.movie)) t.movie.tracks
-  pub room : m.room + table_total t.movie.tracks ≡ max_samples
   pub tracks : AllZip (IsInfoOf file t) t.movie.tracks m.tracks
   pub own : AreOwn t.movie t.fragments m.own
   pub mehd : m.mehd ≡ movie_length (presentation_of file t)
 
--- the same of a movie whose tracks are not told to wait
+-- the same of a movie of which all tracks are shown, and not told to wait
 pub record IsOpenedOwn (file : List ℕ) (m : MovieSeen) (t : FileTree) : Type 0 where
   pub opened : IsOpenedAs file m t
+  pub own_tracks : m.only ≡ None
   pub own_edits : m.waits ≡ None
 
 -- the numbers that are kept of a track are its own
@@ -166,9 +183,9 @@ kept_of o moov file_length f = record {
   longest = o.longest;
   tables = f.plain.tables.items;
   states = f.plain.states.items;
-  room = f.plain.room;
   tracks = f.tracks.items;
   own = map own_seen f.own.items;
   mehd = f.mehd;
+  only = None;
   waits = None;
 }

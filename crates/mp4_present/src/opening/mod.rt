@@ -151,11 +151,7 @@ pub fn open_movie<S: Store, L: Ledger, M: Ledger>(
         own,
         mehd,
     } = find(alloc, store, &outline, moov.as_slice(), steps)?;
-    let PlainTracks {
-        tables,
-        states,
-        room,
-    } = plain;
+    let PlainTracks { tables, states, .. } = plain;
     Ok(Movie {
         top: outline.moov,
         moov,
@@ -163,10 +159,10 @@ pub fn open_movie<S: Store, L: Ledger, M: Ledger>(
         longest: outline.longest,
         tables,
         states,
-        room,
         tracks,
         own,
         mehd,
+        only: None,
         waits: None,
     })
 }

@@ -133,16 +133,19 @@ refusal_text (Err r) = fault_line r ++ 10 ∷ []
 
 -- ---- what is found of a file
 
--- that it is accepted, or the sum of what is left of it, or that of its bytes
+-- that it is accepted, or the sum of what is left of it, or of one of its tracks alone, or that of
+-- its bytes
 abbrev pub IsFound : Finding → Run → Result (Option (List ℕ)) Refusal → Type 0
 IsFound findings.Verdict r (Ok None) = Judged {A = Unit {0}} r (Ok tt)
 IsFound findings.Verdict r (Ok (Some digest)) = ⊥
 IsFound findings.Verdict r (Err e) = Judged {A = Unit {0}} r (Err e)
-IsFound (findings.Sum what header bytes) r (Ok None) = ⊥
-IsFound (findings.Sum (sums.Form l) header bytes) r (Ok (Some digest)) = Summed l r (Ok digest)
-IsFound (findings.Sum (sums.Form l) header bytes) r (Err e) = Summed l r (Err e)
-IsFound (findings.Sum sums.Bytes header bytes) r (Ok (Some digest)) = SumsBytes r (Ok digest)
-IsFound (findings.Sum sums.Bytes header bytes) r (Err e) = SumsBytes r (Err e)
+IsFound (findings.Sum what track header bytes) r (Ok None) = ⊥
+IsFound (findings.Sum (sums.Form l) track header bytes) r (Ok (Some digest)) =
+    Summed (record { track = track; leaving = l }) r (Ok digest)
+IsFound (findings.Sum (sums.Form l) track header bytes) r (Err e) =
+    Summed (record { track = track; leaving = l }) r (Err e)
+IsFound (findings.Sum sums.Bytes track header bytes) r (Ok (Some digest)) = SumsBytes r (Ok digest)
+IsFound (findings.Sum sums.Bytes track header bytes) r (Err e) = SumsBytes r (Err e)
 
 -- two files are the same or not, or that isn't known
 abbrev pub comparison_status : Result Bool Failure → ℕ

@@ -1,5 +1,5 @@
 -- What the command line asks for.
-use Rattle.std.specs.Prelude.{◌<◌, ◌≤◌, length, false, None}
+use Rattle.std.specs.Prelude.{◌<◌, ◌≤◌, length, false, None, IfSome}
 use Rattle.mp4norm.specs.declared.shell.action.Action.{Action}
 use Rattle.mp4norm.specs.declared.shell.action.Action.TheVariants as actions
 use Rattle.mp4norm.specs.declared.shell.action.Input.TheVariants as inputs
@@ -12,6 +12,8 @@ use Rattle.mp4norm.specs.declared.shell.action.Target.TheVariants as targets
 abbrev pub IsJob : Job → Type 0
 IsJob (jobs.Samples track form) = 1 ≤ track
 IsJob (jobs.Extract track) = 1 ≤ track
+IsJob (jobs.Reduce selection) = IfSome selection.track (λ id. 1 ≤ id)
+IsJob (jobs.Print selection) = IfSome selection.track (λ id. 1 ≤ id)
 IsJob _ = Unit {0}
 
 -- and some box is named that is to be free space

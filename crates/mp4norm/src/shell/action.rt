@@ -102,23 +102,28 @@ pub struct SumCheck {
     pub telling: Telling,
 }
 
-/// What is found of each of some files: whether it is accepted, or its sum; then a line that says
-/// of what may stand before all of them, and sums of the bytes of those that have none behind.
+/// What is found of each of some files: whether it is accepted, or its sum, or that of its track
+/// with one ID alone (8.3.2); then a line that says of what may stand before all of them, and sums
+/// of the bytes of those that have none behind.
 #[derive(Clone, Copy)]
 pub enum Finding {
     Verdict,
     Sum {
         what: SumOf,
+        track: Option<u32>,
         header: bool,
         bytes: bool,
     },
 }
 
-/// Which files are compared, without what, with which boxes as free space, and what is told of it.
+/// Which files are compared, of each which track, where that is one alone, by its ID (8.3.2);
+/// without what, with which boxes as free space, and what is told of it.
 #[derive(Clone, Copy)]
 pub struct ComparedInputs<'a> {
     pub left: Input<'a>,
     pub right: Input<'a>,
+    pub first: Option<u32>,
+    pub second: Option<u32>,
     pub leaving: Without,
     pub listing: Listing,
     pub freeing: Freeing,

@@ -8,12 +8,13 @@ use crate::shell::gathered::GatheredLines;
 use crate::shell::reports::{NotedStream, Report, tell_of};
 use crate::shell::run_command::explain_refusal;
 use crate::shell::sources::{open, read_whole, sum_of_source};
+use crate::shell::track_sums::header_of;
 use mp4_answers::digests::DIGEST;
 use mp4_answers::jobs::{Syntax, VerdictStyle};
 use mp4_answers::text::fault_text::fault_line;
 use mp4_answers::text::json_text::name_json;
 use mp4_answers::text::plain_names::push_plain;
-use mp4_answers::text::sum_lines::{SumOf, bytes_header, header_line, sum_line, sum_object};
+use mp4_answers::text::sum_lines::{SumOf, bytes_header, sum_line, sum_object};
 use mp4_answers::text::verdicts::put_verdict;
 use mp4_boxes::{Refusal, Steps};
 use mp4_store::{IoSink, Sink};
@@ -361,11 +362,12 @@ fn put_header<K: Sink>(
 ) -> Result<(), Refusal> {
     if let Finding::Sum {
         what: SumOf::Form(leaving),
+        track,
         header: true,
         ..
     } = manner.finding
     {
-        let header = header_line(alloc, leaving)?;
+        let header = header_of(alloc, track, leaving)?;
         lines.add(header.as_slice())?;
     }
     Ok(())

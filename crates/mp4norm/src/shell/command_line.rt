@@ -14,6 +14,7 @@ use clap::{ArgMatches, Error};
 use mp4_answers::box_names::Name;
 use mp4_answers::commands::compare::{Lines, Listing};
 use mp4_answers::jobs::{Form, Job, Syntax, VerdictStyle};
+use mp4_answers::selection::Selection;
 use mp4_answers::text::sum_lines::SumOf;
 use mp4_answers::without_words::{leaving_both, leaving_of};
 use mp4_content::Without;
@@ -52,6 +53,13 @@ const BYTES_UNMARKED: &str = "\
 the argument '--bytes' cannot be used with '--json', '--zero' and '--no-header': a line says \
 which sums are of bytes";
 
+const TRACK_OF_BYTES: &str = "\
+the argument '--track <ID>' cannot be used with '--bytes': bytes are summed of whole files";
+
+const TRACK_UNMARKED: &str = "\
+the argument '--track <ID>' cannot be used with '--no-header': a line says of which track the \
+sums are";
+
 const CHECK_ALONE: &str = "\
 the argument '--check <LIST>' can be used only with '--quiet', '--summary', '--new', \
 '--foreign', '--lossy', '--max-parts', '--explain' and '--brief'";
@@ -67,6 +75,13 @@ const WITHOUT_RULE: &str = "\
 each word is times, edits, flags, groups, metadata, bitrates, ends, origins, labels, timing, \
 roles, ids, timescales or lead-ins, or a set of these: packaging-1, media-1, packaging-2 or \
 media-2";
+
+const TRACK_RULE: &str = "\
+one ID of a track is wanted, from 1 to 4294967295; only compare takes two, as A:B";
+
+const TRACKS_RULE: &str = "\
+compare takes two IDs as A:B, each from 1 to 4294967295: of a track of the first file, and of one \
+of the second";
 
 /// How many rows of a box are shown where no number is given.
 const ROWS: u64 = 16;
@@ -267,6 +282,62 @@ fn left_out(alloc: Global, found: &ArgMatches) -> Result<Without, CommandFault> 
     Ok(leaving)
 }
 
+// The ID of a track.
+fn id_of(word: &str) -> Option<u32>
+    ensures { IfSome result (λ id. 1 ≤ id) }
+{
+    let id: u32 = word.parse().ok()?;
+    (id >= 1).then_some(id)
+}
+
+// Two of them, apart by a colon.
+fn ids_of(pair: &str) -> Option<(u32, u32)> {
+    let (first, second) = pair.split_once(":")?;
+    Some((id_of(first)?, id_of(second)?))
+}
+
+// Which track is looked at, where it is one alone.
+fn track_alone(alloc: Global, found: &ArgMatches) -> Result<Option<u32>, CommandFault>
+    ensures { IfOk result (λ track. IfSome track (λ id. 1 ≤ id)) }
+{
+    let Some(word) = found.get_str("track") else {
+        return Ok(None);
+    };
+    match id_of(word) {
+        Some(id) => Ok(Some(id)),
+        None => Err(list_fault(alloc, word, "--track <ID>", TRACK_RULE)),
+    }
+}
+
+// Which track is looked at, where it is one alone, and what of it is left out.
+fn selection_of(alloc: Global, found: &ArgMatches) -> Result<Selection, CommandFault>
+    ensures { IfOk result (λ selection. IfSome selection.track (λ id. 1 ≤ id)) }
+{
+    Ok(Selection {
+        track: track_alone(alloc, found)?,
+        leaving: left_out(alloc, found)?,
+    })
+}
+
+// Which track of each of two files is looked at, where it is one alone.
+fn tracks_of(
+    alloc: Global,
+    found: &ArgMatches,
+) -> Result<(Option<u32>, Option<u32>), CommandFault> {
+    let Some(pair) = found.get_str("tracks") else {
+        return Ok((None, None));
+    };
+    match ids_of(pair) {
+        Some((first, second)) => Ok((Some(first), Some(second))),
+        None => Err(list_fault(alloc, pair, "--track <A:B>", TRACKS_RULE)),
+    }
+}
+
+// Whether an option that takes a word is given.
+fn is_given(found: &ArgMatches, option: &str) -> bool {
+    found.get_str(option).is_some()
+}
+
 // What is to be done; nothing where a word is missing.
 fn job_of(
     alloc: Global,
@@ -292,12 +363,12 @@ fn job_of(
         }
         ("extract", Some(track)) => Job::Extract { track },
         ("print", _) => {
-            let leaving = left_out(alloc, found)?;
-            Job::Print { leaving }
+            let selection = selection_of(alloc, found)?;
+            Job::Print { selection }
         }
-        ("normalise", _) if found.get_str("without").is_some() => {
-            let leaving = left_out(alloc, found)?;
-            Job::Reduce { leaving }
+        ("normalise", _) if is_given(found, "track") || is_given(found, "without") => {
+            let selection = selection_of(alloc, found)?;
+            Job::Reduce { selection }
         }
         ("normalise", _) => Job::Normalise,
         _ => return Ok(None),
@@ -360,6 +431,7 @@ fn sum_asked<'a>(alloc: Global, found: &ArgMatches<'a>) -> Result<Action<'a>, Co
     let is_plain = !found.get_flag("zero") && !found.get_flag("json");
     let finding = Finding::Sum {
         what: SumOf::Form(left_out(alloc, found)?),
+        track: track_alone(alloc, found)?,
         header: is_plain && !found.get_flag("no-header"),
         bytes: found.get_flag("bytes"),
     };
@@ -387,9 +459,12 @@ fn compare_asked<'a>(alloc: Global, found: &ArgMatches<'a>) -> Result<Action<'a>
         return Err(missing(alloc));
     };
     let most = most_parts_of(found);
+    let (first, second) = tracks_of(alloc, found)?;
     Ok(Action::Compare(ComparedInputs {
         left: input_of(left, most),
         right: input_of(right, most),
+        first,
+        second,
         leaving: left_out(alloc, found)?,
         listing: listing_of(found),
         freeing: freeing_of(found),
@@ -427,7 +502,8 @@ fn has_any(found: &ArgMatches, flags: &[&str]) -> bool {
 fn sum_conflict(found: &ArgMatches) -> Option<&'static str> {
     let is_checked = found.get_str("check").is_some();
     let is_new = found.get_flag("new");
-    let says_how = found.get_str("without").is_some() || has_any(found, &["json", "no-header"]);
+    let is_alone = is_given(found, "track");
+    let says_how = is_alone || is_given(found, "without") || has_any(found, &["json", "no-header"]);
     if !is_checked && found.get_flag("quiet") {
         Some(QUIET_ALONE)
     } else if !is_checked && found.get_flag("summary") {
@@ -436,6 +512,10 @@ fn sum_conflict(found: &ArgMatches) -> Option<&'static str> {
         Some(NEW_ALONE)
     } else if found.get_flag("bytes") && has_any(found, &["json", "zero", "no-header"]) {
         Some(BYTES_UNMARKED)
+    } else if is_alone && found.get_flag("bytes") {
+        Some(TRACK_OF_BYTES)
+    } else if is_alone && !is_checked && found.get_flag("no-header") {
+        Some(TRACK_UNMARKED)
     } else if is_new && (says_how || has_any(found, &["bytes", "quiet", "summary", "foreign"])) {
         Some(NEW_OPENS_NOTHING)
     } else if is_new && !names_files(found) {

@@ -41,6 +41,11 @@ bitrates, ends, origins, labels, timing, roles, ids, timescales, lead-ins; or a 
 packaging-1 for the first eight, media-1 for the first ten, packaging-2 or media-2, which keep \
 how long each track waits";
 
+const TRACK: &str = "Take the track of this ID, from 1, as if the file had no other";
+
+const TRACKS: &str = "\
+Compare a track of A with one of B, by their IDs, each as if its file had no other: 1:2";
+
 const PROGRESS: &str = "Say on standard error how far it has come, in percent and MB/s";
 
 const HEADER: &str = "Begin with a line of the names of the columns";
@@ -104,6 +109,24 @@ fn track_arg<'a>(alloc: Global) -> Arg<'a> {
         .required(true)
         .action(ArgAction::Set)
         .value_parser(value_parser!(u32).range(1..))
+}
+
+// A track that is looked at alone.
+fn alone_arg<'a>(alloc: Global) -> Arg<'a> {
+    Arg::new(alloc, "track")
+        .long("track")
+        .value_name("ID")
+        .help(TRACK)
+        .action(ArgAction::Set)
+}
+
+// A track of each of two files.
+fn tracks_arg<'a>(alloc: Global) -> Arg<'a> {
+    Arg::new(alloc, "tracks")
+        .long("track")
+        .value_name("A:B")
+        .help(TRACKS)
+        .action(ArgAction::Set)
 }
 
 fn out_arg<'a>(alloc: Global) -> Arg<'a> {
@@ -238,7 +261,10 @@ fn normalise_command<'a>(alloc: Global) -> Result<Command<'a>, AllocError> {
         "Writes the normal form of a file",
         "Example: mp4norm normalise movie.mp4 --out normal.mp4",
     )?;
-    let command = command.alias("normalize")?.arg(without_arg(alloc))?;
+    let command = command
+        .alias("normalize")?
+        .arg(alone_arg(alloc))?
+        .arg(without_arg(alloc))?;
     with_out(with_foreign(command, alloc)?, alloc)
 }
 
@@ -249,7 +275,8 @@ fn print_command<'a>(alloc: Global) -> Result<Command<'a>, AllocError> {
         "Prints what a file says as text, for version control: a line for each value and sample",
         "Example: mp4norm print movie.mp4 --without times > movie.txt",
     )?;
-    with_foreign(command.arg(without_arg(alloc))?, alloc)?
+    let command = command.arg(alone_arg(alloc))?.arg(without_arg(alloc))?;
+    with_foreign(command, alloc)?
         .arg(out_arg(alloc).required(false))?
         .arg(flag(alloc, "replace", REPLACE))
 }
@@ -323,6 +350,7 @@ fn sum_command<'a>(alloc: Global) -> Result<Command<'a>, AllocError> {
         .after_help("Example: mp4norm sum *.mp4 --without times > list; mp4norm sum --check list")
         .arg(files.required_unless_present("check")?)?
         .arg(list_arg(alloc))?
+        .arg(alone_arg(alloc))?
         .arg(without_arg(alloc))?
         .arg(flag(alloc, "zero", ZERO))?;
     sum_flags(command, alloc)
@@ -373,6 +401,7 @@ fn compare_command<'a>(alloc: Global) -> Result<Command<'a>, AllocError> {
         .after_help("Example: mp4norm compare one.mp4 other.mp4 --without times,metadata")
         .arg(side_arg(alloc, "left", "A"))?
         .arg(side_arg(alloc, "right", "B"))?
+        .arg(tracks_arg(alloc))?
         .arg(without_arg(alloc))?
         .arg(flag(alloc, "all", ALL))?
         .arg(flag(alloc, "align", ALIGN))?

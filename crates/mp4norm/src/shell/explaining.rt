@@ -367,9 +367,11 @@ fn tracks_line(alloc: Global, tracks: &[TrackInfo]) -> Result<Vec<u8>, AllocErro
     Ok(text)
 }
 
-/// Puts a line that names the tracks of a file by their IDs, the first hundred of them.
+/// Puts a line that names the tracks of a file by their IDs, the first hundred of them; before it
+/// the name of the file, where it is given.
 pub(crate) fn name_tracks<S: Store, K: Sink, L: Ledger, M: Ledger>(
     alloc: Global,
+    name: Option<&str>,
     store: &mut S,
     sink: &mut K,
     steps: &mut Steps<L, M>,
@@ -378,6 +380,9 @@ pub(crate) fn name_tracks<S: Store, K: Sink, L: Ledger, M: Ledger>(
     ensures file { S.file store.new ≡ S.file store.old }
 {
     let movie = open_movie(alloc, store, steps)?;
-    sink.put(tracks_line(alloc, movie.tracks())?.as_slice())?;
+    let mut text = Vec::new(alloc);
+    push_file(&mut text, alloc, name)?;
+    text.extend_from_slice(tracks_line(alloc, movie.tracks())?.as_slice())?;
+    sink.put(text.as_slice())?;
     Ok(())
 }

@@ -28,3 +28,4 @@ pub mod run_command;
 pub mod run_compare;
 pub mod sources;
 pub mod sum_checks;
+pub mod track_sums;

@@ -162,7 +162,7 @@ pub(crate) fn explain_refusal<L: Ledger, M: Ledger>(
             said
         }
         Refusal::Fault(fault) => explain_briefly(alloc, name, fault, source, &mut errors, steps),
-        Refusal::NoSuchTrack => name_tracks(alloc, source, &mut errors, steps),
+        Refusal::NoSuchTrack => name_tracks(alloc, name, source, &mut errors, steps),
         _ => Ok(()),
     };
 }

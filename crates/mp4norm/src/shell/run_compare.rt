@@ -138,6 +138,8 @@ fn compared<L: Ledger, M: Ledger>(
     on_side(first.readable(), Side::First)?;
     on_side(second.readable(), Side::Second)?;
     let looks = Asked {
+        first: asked.first,
+        second: asked.second,
         leaving: asked.leaving,
         listing: asked.listing,
     };

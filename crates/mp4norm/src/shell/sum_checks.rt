@@ -11,11 +11,12 @@ use crate::shell::file_names::word_of;
 use crate::shell::list_sources::tell_fault;
 use crate::shell::lists::{ListFault, first_line, first_name, without_return};
 use crate::shell::reports::{NotedStream, Report, tell_of};
+use crate::shell::track_sums::listed_line;
 use mp4_answers::jobs::{Syntax, VerdictStyle};
 use mp4_answers::text::fault_text::fault_line;
 use mp4_answers::text::new_names::new_lines;
 use mp4_answers::text::plain_names::push_plain;
-use mp4_answers::text::sum_lines::{ListedSum, SumOf, listed_sum, push_name, tally_line};
+use mp4_answers::text::sum_lines::{ListedSum, SumOf, push_name, tally_line};
 use mp4_boxes::{Refusal, Steps};
 use mp4_content::Without;
 use mp4_store::{IoSink, Sink};
@@ -29,15 +30,21 @@ const NO_LIST: u8 = 64;
 // The files of a list, in their order; or which line can't be taken, and why.
 fn files_of(alloc: Global, list: &[u8]) -> Result<Result<Vec<ListedFile>, ListFault>, AllocError> {
     let mut files = Vec::new(alloc);
-    let mut what = SumOf::Form(Without::NOTHING);
+    let (mut track, mut what) = (None, SumOf::Form(Without::NOTHING));
     let mut left = list;
     let mut line = 0u64;
     while !left.is_empty() {
         let (own, rest) = first_line(left);
         line = line.saturating_add(1);
-        match listed_sum(alloc, without_return(own))? {
-            ListedSum::Header(said) => what = said,
-            ListedSum::Sum { digest, name } => files.push(ListedFile { name, digest, what })?,
+        let (alone, said) = listed_line(alloc, without_return(own))?;
+        match said {
+            ListedSum::Header(said) => (track, what) = (alone, said),
+            ListedSum::Sum { digest, name } => files.push(ListedFile {
+                name,
+                digest,
+                what,
+                track,
+            })?,
             ListedSum::Passed => {}
             ListedSum::Odd(what) => return Ok(Err(ListFault { line, what })),
         }
@@ -57,6 +64,7 @@ fn sum_of<L: Ledger, M: Ledger>(
     let input = input_of(word.as_str(), how.most_parts);
     let finding = Finding::Sum {
         what: file.what,
+        track: file.track,
         header: false,
         bytes: false,
     };

@@ -22,9 +22,10 @@ use Rattle.mp4_answers.specs.declared.commands.compare.Lines.{Lines}
 use Rattle.mp4_answers.specs.declared.commands.compare.Listing.TheVariants as listings
 use Rattle.mp4_answers.specs.format.Answers.{IsFaultOf}
 use Rattle.mp4_answers.specs.format.BoxWalk.{under, FaultSeen}
-use Rattle.mp4_answers.specs.format.CompareHeadline.{IsVerdict, IsTold}
+use Rattle.mp4_answers.specs.format.CompareHeadline.{IsVerdict, IsTold, of_first, of_second}
 use Rattle.mp4_answers.specs.format.DifferenceObject.{last_object}
-use Rattle.mp4_answers.specs.format.FileTexts.{ShowsLine, ListsSamples, HasData, LacksTrack, PrintsText}
+use Rattle.mp4_answers.specs.format.FileTexts.{ShowsLine, ListsSamples, HasData, PrintsText}
+use Rattle.mp4_answers.specs.format.Selected.{LacksNamed, LacksTrack, whole}
 use Rattle.mp4_answers.specs.format.Headline.{HasNormalForm}
 use Rattle.mp4_answers.specs.format.ReducedHeadline.{HasReducedForm, LeftFaultStands}
 use Rattle.mp4_answers.specs.format.Told.{IsFaultTold}
@@ -119,10 +120,10 @@ syntax_of n = if n == 0 then Some syntaxes.Text
 
 -- what is done, where that is known
 abbrev pub reduce_job : Option Without → Option Job
-reduce_job = option_map jobs.Reduce
+reduce_job = option_map (λ l. jobs.Reduce (whole l))
 
 abbrev pub print_job : Option Without → Option Job
-print_job = option_map jobs.Print
+print_job = option_map (λ l. jobs.Print (whole l))
 
 abbrev pub samples_job : ℕ → Option Form → Option Job
 samples_job track = option_map (λ form. jobs.Samples track form)
@@ -149,7 +150,12 @@ listing_of number limit (Some syntax) = if number == 0 then Some (listings.First
 abbrev pub asked_of : Option Without → Option Listing → Option Asked
 asked_of None listing = None
 asked_of (Some l) None = None
-asked_of (Some l) (Some listing) = Some (record { leaving = l; listing = listing })
+asked_of (Some l) (Some listing) = Some (record {
+  first = None;
+  second = None;
+  leaving = l;
+  listing = listing;
+})
 
 -- by the first difference as a line
 abbrev pub first_asked : ℕ → Option Asked
@@ -196,9 +202,10 @@ Windowed IsText IsFault Lacks from before after (Err refusals.WriteFailed) = ⊥
 -- the window of the text that a job puts of a file
 abbrev pub WindowOf : Job → List ℕ → ℕ → List ℕ → List ℕ → Result ℕ Refusal → Type 0
 WindowOf jobs.Normalise file = Windowed (HasNormalForm file) (IsFaultOf file) ⊥
-WindowOf (jobs.Reduce l) file = Windowed (HasReducedForm l file)
-    (λ f. IsFaultTold l file f ⊎ LeftFaultStands l file f) ⊥
-WindowOf (jobs.Print l) file = Windowed (PrintsText l file) (IsFaultTold l file) ⊥
+WindowOf (jobs.Reduce s) file = Windowed (HasReducedForm s file)
+    (λ f. IsFaultTold s file f ⊎ LeftFaultStands s file f) (LacksNamed s.track true file)
+WindowOf (jobs.Print s) file = Windowed (PrintsText s file) (IsFaultTold s file)
+    (LacksNamed s.track true file)
 WindowOf jobs.Show file = Windowed (ShowsLine file) (IsFaultOf file) ⊥
 WindowOf (jobs.Samples track form) file = Windowed (ListsSamples file track form)
     (IsFaultOf file) (LacksTrack file track)
@@ -239,17 +246,17 @@ Checks file a = (result : Result ℕ Refusal) × (a ≡ told result)
 abbrev pub Sums : Option Without → List ℕ → List ℕ → List ℕ → Answer → Type 0
 Sums None file before after a = (a ≡ usage) × (after ≡ before)
 Sums (Some l) file before after a = (result : Result ℕ Refusal) × (a ≡ told result)
-    × Found (λ n. (n ≡ 32) × HasSum l file after)
-    (λ f. (IsFaultTold l file f ⊎ LeftFaultStands l file f)) result
+    × Found (λ n. (n ≡ 32) × HasSum (whole l) file after)
+    (λ f. (IsFaultTold (whole l) file f ⊎ LeftFaultStands (whole l) file f)) result
     × (OnErr result (after ≡ before))
 
 -- How many bytes the normal form has of what is left of the file, as far as 64 bits go.
 abbrev pub Measures : Option Without → List ℕ → Answer → Type 0
 Measures None file a = a ≡ usage
 Measures (Some l) file a = (result : Result ℕ Refusal) × (a ≡ told result)
-    × Found (λ n. (form : List ℕ) × HasReducedForm l file form
+    × Found (λ n. (form : List ℕ) × HasReducedForm (whole l) file form
     × (n ≡ min (length form) (2 ^ 64 - 1)))
-    (λ f. (IsFaultTold l file f ⊎ LeftFaultStands l file f)) result
+    (λ f. (IsFaultTold (whole l) file f ⊎ LeftFaultStands (whole l) file f)) result
 
 -- ---- what comparing two files answers
 
@@ -267,22 +274,25 @@ abbrev pub same_text : Asked → List ℕ
 same_text asked = same_listed asked.listing asked.leaving
 
 -- The same is left of both, or not, and the window is put of what is said of that; or one of them
--- has such a fault, or there is no memory, and the buffer is as it was. Over bytes in memory
--- nothing else is answered.
+-- has such a fault, or lacks a track that is named, or there is no memory, and the buffer is as it
+-- was. Over bytes in memory nothing else is answered.
 pub data Compared (asked : Asked) (file other : List ℕ) (from : ℕ) (before after : List ℕ)
     (a : Answer) : Type 0 where
-  is_same : (many : ℕ) → a ≡ plain 0 many → IsVerdict asked.leaving file other true
+  is_same : (many : ℕ) → a ≡ plain 0 many → IsVerdict asked file other true
       → IsWindow from before after (same_text asked) many
       → Compared asked file other from before after a
   is_other : (text : List ℕ) (many : ℕ) → a ≡ plain 5 many
-      → IsVerdict asked.leaving file other false
-      → IsTold asked.listing asked.leaving file other text → IsWindow from before after text many
+      → IsVerdict asked file other false → IsTold asked file other text
+      → IsWindow from before after text many
       → Compared asked file other from before after a
-  first_refused : (f : Fault) → a ≡ fault_told 0 f → IsFaultTold asked.leaving file f
+  first_refused : (f : Fault) → a ≡ fault_told 0 f → IsFaultTold (of_first asked) file f
       → after ≡ before
       → Compared asked file other from before after a
-  second_refused : (f : Fault) → a ≡ fault_told 1 f → IsFaultTold asked.leaving other f
+  second_refused : (f : Fault) → a ≡ fault_told 1 f → IsFaultTold (of_second asked) other f
       → after ≡ before
+      → Compared asked file other from before after a
+  no_track : a ≡ plain 4 0
+      → LacksNamed asked.first true file ⊎ LacksNamed asked.second true other → after ≡ before
       → Compared asked file other from before after a
   no_memory : a ≡ plain 2 0 → after ≡ before → Compared asked file other from before after a
 

@@ -19,6 +19,11 @@ returns-in_err-by-clause-handed g c =
       front = λ told told_right tree other o p t u at bt. takes_nothing (g.D.Differences.taken c.args.seen.now) _;
     }
 
+pub returns-in_err-by-clause-unchanged : goal.returns-in_err-by-clause-unchanged
+returns-in_err-by-clause-unchanged g c =
+    let e = err_from_is_err_and c.from_residual.result c.from_residual.ensures.1 in
+    rw (e.1, e.2) c.in_err-by.ensures.unchanged
+
 pub loop-number-init : goal.loop-number-init
 loop-number-init g c =
     let e = c.in_ok-by.ensures in

@@ -13,7 +13,7 @@ returns-clause-movie g c = λ told.
     let found = c.in_ok-plain.field-0 in
     let r = (rw (moov.honesty, outline.store.honesty, moov.file, outline.store.file, c.as_slice.ensures.value) at c.in_ok-plain.ensures.movie) told in
     let len : length file ≡ c.len-file_len.result = ap length (sym (moov.file ∙ outline.store.file)) ∙ sym c.len-file_len.ensures in
-    (r.0, record { opened = subst (λ (n : ℕ). IsOpenedAs file (kept_of c.in_ok-outline.outline c.in_ok-moov.moov.items n found) r.0) len r.1; own_edits = refl })
+    (r.0, record { opened = subst (λ (n : ℕ). IsOpenedAs file (kept_of c.in_ok-outline.outline c.in_ok-moov.moov.items n found) r.0) len r.1; own_tracks = refl; own_edits = refl })
 
 pub returns-in_err-outline-clause-work : goal.returns-in_err-outline-clause-work
 returns-in_err-outline-clause-work g c = λ told. none_checked _ _ _ _

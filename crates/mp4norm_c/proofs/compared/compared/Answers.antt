@@ -19,4 +19,4 @@ returns-clause-differ g c =
 
 pub returns-clause-refusal : goal.returns-clause-refusal
 returns-clause-refusal g c =
-    refused_two c.args.asked.leaving c.args.file.now c.args.other.now (Took c.args.text.now c.compare_files.new.sink) c.args.text.now.failed c.compare_files.new.sink.failed c.compare_files.result (rw (c.new-left.ensures, c.new-right.ensures) at c.compare_files.ensures.answer.refusal)
+    refused_two c.args.asked c.args.file.now c.args.other.now (Took c.args.text.now c.compare_files.new.sink) c.args.text.now.failed c.compare_files.new.sink.failed c.compare_files.result (rw (c.new-left.ensures, c.new-right.ensures) at c.compare_files.ensures.answer.refusal)

@@ -1,6 +1,7 @@
 use Rattle.std.proofs.Common.{◌≡◌, ℕ, ◌-◌, ◌^◌, min, List, length, refl, arith}
 use Rattle.std.specs.Prelude.{Ok, Err}
 use Rattle.mp4_answers.specs.format.ReducedHeadline.{HasReducedForm}
+use Rattle.mp4_answers.specs.format.Selected.{whole}
 use Rattle.mp4norm_c.specs.words.Counting.{Counted}
 use Rattle.mp4norm_c.proofs.Found.{found_not}
 use Rattle.mp4norm_c.proofs.looks.answer_length.Goals as goal
@@ -17,5 +18,5 @@ pub returns-in-Err : goal.returns-in-Err
 returns-in-Err c = rw c.in-Some.is (
   Err c.in-Err.refusal,
   c.told.ensures,
-  found_not (Unit {0}) _ _ (λ n. (form : List ℕ) × HasReducedForm c.in-Some.leaving c.args.file.now form × (n ≡ min (length form) (2 ^ 64 - 1))) c.args.file.now (Counted c.new-sink.result c.counted.new.sink) c.in-Err.refusal c.in-Err.ensures.0,
+  found_not (Unit {0}) _ _ (λ n. (form : List ℕ) × HasReducedForm (whole c.in-Some.leaving) c.args.file.now form × (n ≡ min (length form) (2 ^ 64 - 1))) c.args.file.now (Counted c.new-sink.result c.counted.new.sink) c.in-Err.refusal c.in-Err.ensures.0,
 )

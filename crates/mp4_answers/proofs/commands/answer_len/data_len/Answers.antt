@@ -1,7 +1,8 @@
 use Rattle.std.proofs.Common.{refl}
 use Rattle.std.proofs.lemmas.Result.{err_from_is_err_and}
 use Rattle.mp4_answers.specs.format.Answers.{IsFaultOf}
-use Rattle.mp4_answers.specs.format.FileTexts.{HasData, LacksTrack}
+use Rattle.mp4_answers.specs.format.FileTexts.{HasData}
+use Rattle.mp4_answers.specs.format.Selected.{LacksTrack}
 use Rattle.mp4_answers.specs.format.Run.{look_of, Honest}
 use Rattle.mp4_answers.proofs.RunParts.{open_fails}
 use Rattle.mp4_answers.proofs.TrackTexts.{lacks}

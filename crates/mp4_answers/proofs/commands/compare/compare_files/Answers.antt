@@ -25,8 +25,8 @@ returns-in-Err-text_of-clause-answer g c =
       right = record { honesty = e.stores.right.honesty ∙ next.store.honesty; file = e.stores.right.file ∙ next.store.file; reads = tt };
       puts = tt;
       put = tt;
-      refusal = together (RefusesTold c.args.asked.leaving.lead_ins (g.S.Store.is_honest c.args.left.now) (g.S.Store.file c.args.left.now) (g.S.Store.read_failures c.args.left.now) (g.S.Store.read_failures c.text_of.new.left))
-          (RefusesTold c.args.asked.leaving.lead_ins (g.T.Store.is_honest c.args.right.now) (g.T.Store.file c.args.right.now) (g.T.Store.read_failures c.args.right.now) (g.T.Store.read_failures c.text_of.new.right))
+      refusal = together (RefusesTold c.args.asked.first c.args.asked.leaving.lead_ins (g.S.Store.is_honest c.args.left.now) (g.S.Store.file c.args.left.now) (g.S.Store.read_failures c.args.left.now) (g.S.Store.read_failures c.text_of.new.left))
+          (RefusesTold c.args.asked.second c.args.asked.leaving.lead_ins (g.T.Store.is_honest c.args.right.now) (g.T.Store.file c.args.right.now) (g.T.Store.read_failures c.args.right.now) (g.T.Store.read_failures c.text_of.new.right))
           _ _ _ _ _ _ (g.K.Sink.takes c.args.sink.now c.args.sink.now) (g.met.K.Sink.takes_nothing c.args.sink.now) (g.K.Sink.put_failures c.args.sink.now) c.in-Err-text_of.refusal c.failed_together.result c.failed_together.ensures.side c.failed_together.ensures.refusal cause
           (λ told right. let a = left.movie told in let b = next.movie right in (opened told right a.0 b.0 a.1.opened b.1.opened).0);
     }
@@ -36,7 +36,7 @@ returns-in-Err-text_of-clause-work g c = λ told right.
     let left = c.in-Ok.ensures in
     let next = c.in-Ok-open_told.ensures in
     let walks = rw (left.store.honesty, left.store.file, next.store.honesty, next.store.file, c.when_told.ensures) at c.in-Err-text_of.ensures.opened in
-    both_walked c.args.asked.leaving c.args.asked.listing _ _ _ _ _ _ _ _ (left.movie told) (next.movie right) (left.work told) (next.work right) (λ tree other o u. (walks told right tree other o u).1)
+    both_walked c.args.asked _ _ _ _ _ _ _ _ (left.movie told) (next.movie right) (left.work told) (next.work right) (λ tree other o u. (walks told right tree other o u).1)
 
 pub returns-in-Ok-put_found-clause-verdict : goal.returns-in-Ok-put_found-clause-verdict
 returns-in-Ok-put_found-clause-verdict g c = λ told right.
@@ -45,21 +45,21 @@ returns-in-Ok-put_found-clause-verdict g c = λ told right.
     let a = left.movie told in
     let b = next.movie right in
     let said = rw (left.store.honesty, left.store.file, next.store.honesty, next.store.file, c.when_told.ensures) at c.in-Ok-text_of.ensures.said in
-    verdict c.args.asked.leaving _ _ _ _ c.in-Ok-text_of.found c.in-Ok-put_found.same c.in-Ok-put_found.ensures.is a b (said told right a.0 b.0 a.1.opened b.1.opened)
+    verdict c.args.asked _ _ _ _ c.in-Ok-text_of.found c.in-Ok-put_found.same c.in-Ok-put_found.ensures.is a b (said told right a.0 b.0 a.1.opened b.1.opened)
 
 pub returns-in-Ok-put_found-clause-work : goal.returns-in-Ok-put_found-clause-work
 returns-in-Ok-put_found-clause-work g c = λ told right.
     let left = c.in-Ok.ensures in
     let next = c.in-Ok-open_told.ensures in
     let walks = rw (left.store.honesty, left.store.file, next.store.honesty, next.store.file, c.when_told.ensures) at c.in-Ok-text_of.ensures.opened in
-    both_walked c.args.asked.leaving c.args.asked.listing _ _ _ _ _ _ _ _ (left.movie told) (next.movie right) (left.work told) (next.work right) (λ tree other o u. (walks told right tree other o u).1)
+    both_walked c.args.asked _ _ _ _ _ _ _ _ (left.movie told) (next.movie right) (left.work told) (next.work right) (λ tree other o u. (walks told right tree other o u).1)
 
 pub returns-clause-work : goal.returns-clause-work
 returns-clause-work g c = λ told right.
     let left = c.in-Ok.ensures in
     let next = c.in-Ok-open_told.ensures in
     let walks = rw (left.store.honesty, left.store.file, next.store.honesty, next.store.file, c.when_told.ensures) at c.in-Ok-text_of.ensures.opened in
-    both_walked c.args.asked.leaving c.args.asked.listing _ _ _ _ _ _ _ _ (left.movie told) (next.movie right) (left.work told) (next.work right) (λ tree other o u. (walks told right tree other o u).1)
+    both_walked c.args.asked _ _ _ _ _ _ _ _ (left.movie told) (next.movie right) (left.work told) (next.work right) (λ tree other o u. (walks told right tree other o u).1)
 
 pub returns-in-Ok-put_found-clause-least : goal.returns-in-Ok-put_found-clause-least
 returns-in-Ok-put_found-clause-least g c = λ told right p q d e.
@@ -94,4 +94,4 @@ returns-in-Ok-put_found-clause-told g c = λ differ told right.
     let a = left.movie told in
     let b = next.movie right in
     let found = rw (left.store.honesty, left.store.file, next.store.honesty, next.store.file, c.when_told.ensures) at c.in-Ok-text_of.ensures.told in
-    told_of (λ bytes. bytes.items) c.args.asked.listing c.args.asked.leaving _ _ _ _ c.in-Ok-text_of.found c.in-Ok-put_found.same _ c.in-Ok-put_found.ensures.is differ c.in-Ok-put_found.ensures.all a b (found told right a.0 b.0 a.1.opened b.1.opened)
+    told_of (λ bytes. bytes.items) c.args.asked _ _ _ _ c.in-Ok-text_of.found c.in-Ok-put_found.same _ c.in-Ok-put_found.ensures.is differ c.in-Ok-put_found.ensures.all a b (found told right a.0 b.0 a.1.opened b.1.opened)

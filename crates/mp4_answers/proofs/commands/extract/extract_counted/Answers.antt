@@ -5,7 +5,8 @@ use Rattle.mp4_present.proofs.WalkCopied.{on_ok, on_err}
 use Rattle.mp4_present.specs.words.Joined.{sample_bytes}
 use Rattle.mp4_present.proofs.ToldTrees.{file_tree_is}
 use Rattle.mp4_answers.specs.format.Answers.{IsFaultOf}
-use Rattle.mp4_answers.specs.format.FileTexts.{HasData, LacksTrack}
+use Rattle.mp4_answers.specs.format.FileTexts.{HasData}
+use Rattle.mp4_answers.specs.format.Selected.{LacksTrack}
 use Rattle.mp4_answers.specs.format.Run.{run_of, Honest}
 use Rattle.mp4_answers.proofs.RunParts.{copy_answers, open_fails}
 use Rattle.mp4_answers.proofs.TrackTexts.{track_found, lacks, has_data}

@@ -1,4 +1,4 @@
-use Rattle.std.proofs.Common.{◌∙◌, arith, false}
+use Rattle.std.proofs.Common.{◌∙◌, arith, false, None}
 use Rattle.std.proofs.lemmas.Result.{err_from_is_err_and, on_ok_weaker}
 use Rattle.mp4_content.specs.format.ReducedLaws.{nothing}
 use Rattle.mp4_answers.proofs.StepSums.{opened_least}
@@ -8,6 +8,7 @@ use Rattle.mp4_answers.proofs.LooksTaken.{finds_taken, not_found, not_turned, tu
 use Rattle.mp4_answers.specs.format.Answers.{IsFaultOf}
 use Rattle.mp4_answers.specs.format.Headline.{HasNormalForm}
 use Rattle.mp4_answers.specs.format.Run.{run_of}
+use Rattle.mp4_answers.specs.format.Selected.{whole}
 use Rattle.mp4_answers.proofs.Normalised.{all_written, front_written, unchanged_written}
 use Rattle.mp4_answers.proofs.RunParts.{copy_answers, open_fails}
 use Rattle.mp4_answers.proofs.WholePut.{whole_put}
@@ -44,7 +45,7 @@ pub returns-clause-work : goal.returns-clause-work
 returns-clause-work g c = λ told.
     let write = rw (c.in_ok-movie.ensures.store.honesty, c.in_ok-movie.ensures.store.file) at c.write_normal.ensures.work in
     let o = c.in_ok-movie.ensures.movie told in
-    written_within nothing _ c.in_ok-movie.movie _ _ _ (o.0, own_told _ _ o.0 o.1) (opening_told _ _ o.0 _ _ o.1 (c.in_ok-movie.ensures.work told).work) (λ tree o. let w = write told tree o in omega (arith, w))
+    written_within (whole nothing) _ c.in_ok-movie.movie _ _ _ (o.0, own_told _ _ o.0 o.1) (opening_told _ _ o.0 _ _ o.1 (c.in_ok-movie.ensures.work told).work) (λ tree o. let w = write told tree o in omega (arith, w))
 
 pub returns-in_err-movie-clause-looks : goal.returns-in_err-movie-clause-looks
 returns-in_err-movie-clause-looks g c = λ told.
@@ -54,7 +55,7 @@ returns-in_err-movie-clause-looks g c = λ told.
 pub returns-clause-looks : goal.returns-clause-looks
 returns-clause-looks g c = λ told.
     let o = c.in_ok-movie.ensures.movie told in
-    turns_taken false _ c.in_ok-movie.movie _ _ _ (o.0, own_told _ _ o.0 o.1) (finds_taken _ c.in_ok-movie.movie _ _ o (c.in_ok-movie.ensures.work told).looks.said) c.write_normal.ensures.turns
+    turns_taken None false _ c.in_ok-movie.movie _ _ _ (o.0, own_told _ _ o.0 o.1) (finds_taken _ c.in_ok-movie.movie _ _ o (c.in_ok-movie.ensures.work told).looks.said) c.write_normal.ensures.turns
 
 pub returns-in_err-movie-clause-whole : goal.returns-in_err-movie-clause-whole
 returns-in_err-movie-clause-whole g c =

@@ -6,6 +6,7 @@ use Rattle.mp4_present.specs.words.Carried.{BytesGoOn, waiting}
 use Rattle.mp4_present.proofs.WalkCopied.{on_err, on_ok}
 use Rattle.mp4_answers.specs.format.Told.{IsFaultTold}
 use Rattle.mp4_answers.specs.format.FileTexts.{PrintsText}
+use Rattle.mp4_answers.specs.format.Selected.{LacksNamed}
 use Rattle.mp4_answers.specs.format.Run.{run_of}
 use Rattle.mp4_answers.specs.format.Text.{movie_lines}
 use Rattle.mp4_answers.proofs.Matched.{ok_anyway, told_ok}
@@ -19,7 +20,8 @@ pub returns-in_err-movie-clause-answer : goal.returns-in_err-movie-clause-answer
 returns-in_err-movie-clause-answer g c =
     let p = err_from_is_err_and c.from_residual.result c.from_residual.ensures.1 in
     let r = run_of g.S.Store c.args.store.now c.open_told.new.store g.K.Sink c.args.sink.now c.args.sink.now in
-    rw (p.1, p.2) (told_fails (Unit {0}) r (PrintsText c.args.leaving r.file) (IsFaultTold c.args.leaving r.file) ⊥ c.args.leaving.lead_ins c.in_err-movie.field-0.0 (λ f s. s) (g.met.K.Sink.takes_nothing c.args.sink.now) c.in_err-movie.ensures.refusal)
+    rw (p.1, p.2) (told_fails (Unit {0}) r (PrintsText c.args.selection r.file) (IsFaultTold c.args.selection r.file) (LacksNamed c.args.selection.track r.honest r.file) c.args.selection.track c.args.selection.leaving.lead_ins c.in_err-movie.field-0.0 (λ f s. s) (λ w. w)
+    (g.met.K.Sink.takes_nothing c.args.sink.now) c.in_err-movie.ensures.refusal)
 
 pub returns-in_err-scales-clause-answer : goal.returns-in_err-scales-clause-answer
 returns-in_err-scales-clause-answer g c =
@@ -27,7 +29,7 @@ returns-in_err-scales-clause-answer g c =
     let e = c.in_ok-movie.ensures.store in
     let r = run_of g.S.Store c.args.store.now c.of.new.store g.K.Sink c.args.sink.now c.args.sink.now in
     let unchanged = rw (e.honesty, e.file) at c.in_err-scales.ensures.unchanged in
-    rw (p.1, p.2) (plan_fails (Unit {0}) r (PrintsText c.args.leaving r.file) (IsFaultTold c.args.leaving r.file) ⊥ c.in_err-scales.field-0.0 (g.met.K.Sink.takes_nothing c.args.sink.now) (rw e.reads at c.in_err-scales.ensures.refusal)
+    rw (p.1, p.2) (plan_fails (Unit {0}) r (PrintsText c.args.selection r.file) (IsFaultTold c.args.selection r.file) (LacksNamed c.args.selection.track r.honest r.file) c.in_err-scales.field-0.0 (g.met.K.Sink.takes_nothing c.args.sink.now) (rw e.reads at c.in_err-scales.ensures.refusal)
     (λ told. let o = c.in_ok-movie.ensures.movie told in unchanged told o.0 o.1.opened))
 
 pub returns-in_err-head-clause-answer : goal.returns-in_err-head-clause-answer
@@ -64,7 +66,7 @@ pub returns-in_err-carry-clause-answer : goal.returns-in_err-carry-clause-answer
 returns-in_err-carry-clause-answer g c =
     let p = err_from_is_err_and c.from_residual-in_err-carry.result c.from_residual-in_err-carry.ensures.1 in
     let file = g.S.Store.file c.args.store.now in
-    let l = c.args.leaving in
+    let l = c.args.selection in
     let m = c.in_ok-movie.movie in
     let head = c.in_ok-head.head in
     let says = c.in_ok-head.ensures in
@@ -78,14 +80,14 @@ returns-in_err-carry-clause-answer g c =
     let r = run_of g.S.Store c.args.store.now c.of.new.store g.K.Sink sink c.carry.new.sink in
     let new = c.carry.new.sink in
     let first = rw (c.in_ok-desk.ensures.text, c.as_slice-2.ensures.value, c.in_ok-front.ensures) at c.in_err-carry.ensures.prefix in
-    rw (p.1, p.2) (put_fails (Unit {0}) r (PrintsText l file) (IsFaultTold l file) ⊥ c.in_err-carry.field-0.0 c.in_err-carry.ensures.refusal
+    rw (p.1, p.2) (put_fails (Unit {0}) r (PrintsText l file) (IsFaultTold l file) (LacksNamed l.track r.honest file) c.in_err-carry.field-0.0 c.in_err-carry.ensures.refusal
     (λ told. let o = c.in_ok-movie.ensures.movie told in first_fails l file m o.0 head o.1 says scales (are told o.0 o.1.opened) joins sink new new new new new nothing [] [] [] [] first))
 
 pub returns-in_err-put_movie-clause-answer : goal.returns-in_err-put_movie-clause-answer
 returns-in_err-put_movie-clause-answer g c =
     let p = err_from_is_err_and c.from_residual-in_err-put_movie.result c.from_residual-in_err-put_movie.ensures.1 in
     let file = g.S.Store.file c.args.store.now in
-    let l = c.args.leaving in
+    let l = c.args.selection in
     let m = c.in_ok-movie.movie in
     let head = c.in_ok-head.head in
     let says = c.in_ok-head.ensures in
@@ -99,7 +101,7 @@ returns-in_err-put_movie-clause-answer g c =
     let new = c.put_movie.new.sink in
     let r = run_of g.S.Store c.args.store.now c.of.new.store g.K.Sink sink new in
     let first = rw (c.in_ok-desk.ensures.text, c.as_slice-2.ensures.value, c.in_ok-front.ensures) at c.in_ok-carry.ensures.bytes in
-    rw (p.1, p.2) (put_fails (Unit {0}) r (PrintsText l file) (IsFaultTold l file) ⊥ c.in_err-put_movie.field-0.0 (rw c.in_ok-carry.ensures.puts at c.in_err-put_movie.ensures.refusal)
+    rw (p.1, p.2) (put_fails (Unit {0}) r (PrintsText l file) (IsFaultTold l file) (LacksNamed l.track r.honest file) c.in_err-put_movie.field-0.0 (rw c.in_ok-carry.ensures.puts at c.in_err-put_movie.ensures.refusal)
     (λ told. let o = c.in_ok-movie.ensures.movie told in
     movie_fails l file m o.0 head o.1 says scales (are told o.0 o.1.opened) joins sink c.carry.new.sink new new new new nothing (waiting c.carry.new.self) [] [] [] first
     (subst (λ (x : MovieHead). TakesPrefix (g.K.Sink.takes c.carry.new.sink new) (waiting c.carry.new.self ++ movie_lines x)) (rw c.when_told-words.ensures at c.in_ok-left.ensures.movie) c.in_err-put_movie.ensures.front)))
@@ -108,7 +110,7 @@ pub returns-in_err-put_tracks-clause-answer : goal.returns-in_err-put_tracks-cla
 returns-in_err-put_tracks-clause-answer g c =
     let p = err_from_is_err_and c.from_residual-in_err-put_tracks.result c.from_residual-in_err-put_tracks.ensures.1 in
     let file = g.S.Store.file c.args.store.now in
-    let l = c.args.leaving in
+    let l = c.args.selection in
     let m = c.in_ok-movie.movie in
     let head = c.in_ok-head.head in
     let says = c.in_ok-head.ensures in
@@ -126,7 +128,7 @@ returns-in_err-put_tracks-clause-answer g c =
     let movie = subst (λ (x : MovieHead). BytesGoOn (g.K.Sink.takes c.carry.new.sink c.put_movie.new.sink) (waiting c.carry.new.self) (waiting c.put_movie.new.carrier) (movie_lines x))
     (rw c.when_told-words.ensures at c.in_ok-left.ensures.movie) c.in_ok-put_movie.ensures.all in
     let tracks = rw (f.honesty, f.file, e.honesty, e.file, c.as_slice-heads.ensures.value, c.when_told-words.ensures) at y.told in
-    rw (p.1, p.2) (carry_fails (Unit {0}) r (PrintsText l file) (IsFaultTold l file) ⊥ c.in_err-put_tracks.field-0.0 (rw (f.reads, e.reads, c.in_ok-put_movie.ensures.puts ∙ c.in_ok-carry.ensures.puts) at y.refusal)
+    rw (p.1, p.2) (carry_fails (Unit {0}) r (PrintsText l file) (IsFaultTold l file) (LacksNamed l.track r.honest file) c.in_err-put_tracks.field-0.0 (rw (f.reads, e.reads, c.in_ok-put_movie.ensures.puts ∙ c.in_ok-carry.ensures.puts) at y.refusal)
     (λ told.
     let o = c.in_ok-movie.ensures.movie told in
     let t = tracks told o.0 o.1.opened (heads_remain l file m o.0 head o.1 says scales (are told o.0 o.1.opened) _ (rw c.when_told-words.ensures at c.in_ok-left.ensures.tracks)) in
@@ -137,7 +139,7 @@ pub returns-in_err-carry-2-clause-answer : goal.returns-in_err-carry-2-clause-an
 returns-in_err-carry-2-clause-answer g c =
     let p = err_from_is_err_and c.from_residual-in_err-carry-2.result c.from_residual-in_err-carry-2.ensures.1 in
     let file = g.S.Store.file c.args.store.now in
-    let l = c.args.leaving in
+    let l = c.args.selection in
     let m = c.in_ok-movie.movie in
     let head = c.in_ok-head.head in
     let says = c.in_ok-head.ensures in
@@ -155,7 +157,7 @@ returns-in_err-carry-2-clause-answer g c =
     let movie = subst (λ (x : MovieHead). BytesGoOn (g.K.Sink.takes c.carry.new.sink c.put_movie.new.sink) (waiting c.carry.new.self) (waiting c.put_movie.new.carrier) (movie_lines x))
     (rw c.when_told-words.ensures at c.in_ok-left.ensures.movie) c.in_ok-put_movie.ensures.all in
     let tracks = rw (f.honesty, f.file, e.honesty, e.file, c.as_slice-heads.ensures.value, c.when_told-words.ensures) at y.told in
-    rw (p.1, p.2) (put_fails (Unit {0}) r (PrintsText l file) (IsFaultTold l file) ⊥ c.in_err-carry-2.field-0.0 (rw (y.store.puts ∙ c.in_ok-put_movie.ensures.puts ∙ c.in_ok-carry.ensures.puts) at c.in_err-carry-2.ensures.refusal)
+    rw (p.1, p.2) (put_fails (Unit {0}) r (PrintsText l file) (IsFaultTold l file) (LacksNamed l.track r.honest file) c.in_err-carry-2.field-0.0 (rw (y.store.puts ∙ c.in_ok-put_movie.ensures.puts ∙ c.in_ok-carry.ensures.puts) at c.in_err-carry-2.ensures.refusal)
     (λ told.
     let o = c.in_ok-movie.ensures.movie told in
     let t = tracks told o.0 o.1.opened (heads_remain l file m o.0 head o.1 says scales (are told o.0 o.1.opened) _ (rw c.when_told-words.ensures at c.in_ok-left.ensures.tracks)) in
@@ -165,7 +167,7 @@ returns-in_err-carry-2-clause-answer g c =
 pub returns-clause-answer : goal.returns-clause-answer
 returns-clause-answer g c =
     let file = g.S.Store.file c.args.store.now in
-    let l = c.args.leaving in
+    let l = c.args.selection in
     let m = c.in_ok-movie.movie in
     let head = c.in_ok-head.head in
     let says = c.in_ok-head.ensures in
@@ -184,7 +186,7 @@ returns-clause-answer g c =
     (rw c.when_told-words.ensures at c.in_ok-left.ensures.movie) c.in_ok-put_movie.ensures.all in
     let tracks = rw (f.honesty, f.file, e.honesty, e.file, c.as_slice-heads.ensures.value, c.when_told-words.ensures) at y.told in
     let same = c.in_ok-carry-2.ensures.puts ∙ y.store.puts ∙ c.in_ok-put_movie.ensures.puts ∙ c.in_ok-carry.ensures.puts in
-    put_answers (Unit {0}) r (PrintsText l file) (IsFaultTold l file) ⊥ c.flush.result (ok_anyway _ c.flush.result (y.store.reads ∙ f.reads ∙ e.reads)) (rw same at c.flush.ensures.puts)
+    put_answers (Unit {0}) r (PrintsText l file) (IsFaultTold l file) (LacksNamed l.track r.honest file) c.flush.result (ok_anyway _ c.flush.result (y.store.reads ∙ f.reads ∙ e.reads)) (rw same at c.flush.ensures.puts)
     (told_ok _ _ c.flush.result (λ told.
     let o = c.in_ok-movie.ensures.movie told in
     let t = tracks told o.0 o.1.opened (heads_remain l file m o.0 head o.1 says scales (are told o.0 o.1.opened) _ (rw c.when_told-words.ensures at c.in_ok-left.ensures.tracks)) in
@@ -230,70 +232,70 @@ returns-clause-store g c =
 
 pub returns-in_err-movie-clause-work : goal.returns-in_err-movie-clause-work
 returns-in_err-movie-clause-work g c = λ told.
-    looked_prints c.args.leaving _ _ _ (c.in_err-movie.ensures.work told)
+    looked_prints c.args.selection.leaving _ _ _ (c.in_err-movie.ensures.work told)
 
 pub returns-in_err-scales-clause-work : goal.returns-in_err-scales-clause-work
 returns-in_err-scales-clause-work g c = λ told.
     let o = c.in_ok-movie.ensures.movie told in
     let e = c.in_ok-movie.ensures.store in
     let scaled = rw (e.honesty, e.file, c.when_told-words.ensures) at c.in_err-scales.ensures.work in
-    printed_within c.args.leaving _ c.in_ok-movie.movie o.0 _ _ _ _ o.1 (c.in_ok-movie.ensures.work told) (scaled told o.0 o.1.opened) (omega arith)
+    printed_within c.args.selection _ c.in_ok-movie.movie o.0 _ _ _ _ o.1 (c.in_ok-movie.ensures.work told) (scaled told o.0 o.1.opened) (omega arith)
 
 pub returns-in_err-head-clause-work : goal.returns-in_err-head-clause-work
 returns-in_err-head-clause-work g c = λ told.
     let o = c.in_ok-movie.ensures.movie told in
     let e = c.in_ok-movie.ensures.store in
     let scaled = rw (e.honesty, e.file, c.when_told-words.ensures) at c.in_ok-scales.ensures.work in
-    printed_within c.args.leaving _ c.in_ok-movie.movie o.0 _ _ _ _ o.1 (c.in_ok-movie.ensures.work told) (scaled told o.0 o.1.opened) (omega arith)
+    printed_within c.args.selection _ c.in_ok-movie.movie o.0 _ _ _ _ o.1 (c.in_ok-movie.ensures.work told) (scaled told o.0 o.1.opened) (omega arith)
 
 pub returns-in_err-own-clause-work : goal.returns-in_err-own-clause-work
 returns-in_err-own-clause-work g c = λ told.
     let o = c.in_ok-movie.ensures.movie told in
     let e = c.in_ok-movie.ensures.store in
     let scaled = rw (e.honesty, e.file, c.when_told-words.ensures) at c.in_ok-scales.ensures.work in
-    printed_within c.args.leaving _ c.in_ok-movie.movie o.0 _ _ _ _ o.1 (c.in_ok-movie.ensures.work told) (scaled told o.0 o.1.opened) (omega arith)
+    printed_within c.args.selection _ c.in_ok-movie.movie o.0 _ _ _ _ o.1 (c.in_ok-movie.ensures.work told) (scaled told o.0 o.1.opened) (omega arith)
 
 pub returns-in_err-left-clause-work : goal.returns-in_err-left-clause-work
 returns-in_err-left-clause-work g c = λ told.
     let o = c.in_ok-movie.ensures.movie told in
     let e = c.in_ok-movie.ensures.store in
     let scaled = rw (e.honesty, e.file, c.when_told-words.ensures) at c.in_ok-scales.ensures.work in
-    printed_within c.args.leaving _ c.in_ok-movie.movie o.0 _ _ _ _ o.1 (c.in_ok-movie.ensures.work told) (scaled told o.0 o.1.opened) (omega arith)
+    printed_within c.args.selection _ c.in_ok-movie.movie o.0 _ _ _ _ o.1 (c.in_ok-movie.ensures.work told) (scaled told o.0 o.1.opened) (omega arith)
 
 pub returns-in_err-front-clause-work : goal.returns-in_err-front-clause-work
 returns-in_err-front-clause-work g c = λ told.
     let o = c.in_ok-movie.ensures.movie told in
     let e = c.in_ok-movie.ensures.store in
     let scaled = rw (e.honesty, e.file, c.when_told-words.ensures) at c.in_ok-scales.ensures.work in
-    printed_within c.args.leaving _ c.in_ok-movie.movie o.0 _ _ _ _ o.1 (c.in_ok-movie.ensures.work told) (scaled told o.0 o.1.opened) (omega arith)
+    printed_within c.args.selection _ c.in_ok-movie.movie o.0 _ _ _ _ o.1 (c.in_ok-movie.ensures.work told) (scaled told o.0 o.1.opened) (omega arith)
 
 pub returns-in_err-walks-clause-work : goal.returns-in_err-walks-clause-work
 returns-in_err-walks-clause-work g c = λ told.
     let o = c.in_ok-movie.ensures.movie told in
     let e = c.in_ok-movie.ensures.store in
     let scaled = rw (e.honesty, e.file, c.when_told-words.ensures) at c.in_ok-scales.ensures.work in
-    printed_within c.args.leaving _ c.in_ok-movie.movie o.0 _ _ _ _ o.1 (c.in_ok-movie.ensures.work told) (scaled told o.0 o.1.opened) (omega arith)
+    printed_within c.args.selection _ c.in_ok-movie.movie o.0 _ _ _ _ o.1 (c.in_ok-movie.ensures.work told) (scaled told o.0 o.1.opened) (omega arith)
 
 pub returns-in_err-desk-clause-work : goal.returns-in_err-desk-clause-work
 returns-in_err-desk-clause-work g c = λ told.
     let o = c.in_ok-movie.ensures.movie told in
     let e = c.in_ok-movie.ensures.store in
     let scaled = rw (e.honesty, e.file, c.when_told-words.ensures) at c.in_ok-scales.ensures.work in
-    printed_within c.args.leaving _ c.in_ok-movie.movie o.0 _ _ _ _ o.1 (c.in_ok-movie.ensures.work told) (scaled told o.0 o.1.opened) (omega arith)
+    printed_within c.args.selection _ c.in_ok-movie.movie o.0 _ _ _ _ o.1 (c.in_ok-movie.ensures.work told) (scaled told o.0 o.1.opened) (omega arith)
 
 pub returns-in_err-carry-clause-work : goal.returns-in_err-carry-clause-work
 returns-in_err-carry-clause-work g c = λ told.
     let o = c.in_ok-movie.ensures.movie told in
     let e = c.in_ok-movie.ensures.store in
     let scaled = rw (e.honesty, e.file, c.when_told-words.ensures) at c.in_ok-scales.ensures.work in
-    printed_within c.args.leaving _ c.in_ok-movie.movie o.0 _ _ _ _ o.1 (c.in_ok-movie.ensures.work told) (scaled told o.0 o.1.opened) (omega arith)
+    printed_within c.args.selection _ c.in_ok-movie.movie o.0 _ _ _ _ o.1 (c.in_ok-movie.ensures.work told) (scaled told o.0 o.1.opened) (omega arith)
 
 pub returns-in_err-put_movie-clause-work : goal.returns-in_err-put_movie-clause-work
 returns-in_err-put_movie-clause-work g c = λ told.
     let o = c.in_ok-movie.ensures.movie told in
     let e = c.in_ok-movie.ensures.store in
     let scaled = rw (e.honesty, e.file, c.when_told-words.ensures) at c.in_ok-scales.ensures.work in
-    printed_within c.args.leaving _ c.in_ok-movie.movie o.0 _ _ _ _ o.1 (c.in_ok-movie.ensures.work told) (scaled told o.0 o.1.opened) (omega arith)
+    printed_within c.args.selection _ c.in_ok-movie.movie o.0 _ _ _ _ o.1 (c.in_ok-movie.ensures.work told) (scaled told o.0 o.1.opened) (omega arith)
 
 pub returns-in_err-put_tracks-clause-work : goal.returns-in_err-put_tracks-clause-work
 returns-in_err-put_tracks-clause-work g c = λ told.
@@ -304,8 +306,8 @@ returns-in_err-put_tracks-clause-work g c = λ told.
     let are = rw (e.honesty, e.file, c.when_told-words.ensures) at c.in_ok-scales.ensures.scales in
     let scaled = rw (e.honesty, e.file, c.when_told-words.ensures) at c.in_ok-scales.ensures.work in
     let walks = ((rw (f.honesty, f.file, e.honesty, e.file, c.as_slice-heads.ensures.value, c.when_told-words.ensures) at c.in_err-put_tracks.ensures.told) told o.0 o.1.opened
-    (heads_remain c.args.leaving file c.in_ok-movie.movie o.0 c.in_ok-head.head o.1 c.in_ok-head.ensures c.in_ok-scales.scales (are told o.0 o.1.opened) _ (rw c.when_told-words.ensures at c.in_ok-left.ensures.tracks))).steps in
-    printed_within c.args.leaving file c.in_ok-movie.movie o.0 _ _ _ _ o.1 (c.in_ok-movie.ensures.work told) (scaled told o.0 o.1.opened) walks
+    (heads_remain c.args.selection file c.in_ok-movie.movie o.0 c.in_ok-head.head o.1 c.in_ok-head.ensures c.in_ok-scales.scales (are told o.0 o.1.opened) _ (rw c.when_told-words.ensures at c.in_ok-left.ensures.tracks))).steps in
+    printed_within c.args.selection file c.in_ok-movie.movie o.0 _ _ _ _ o.1 (c.in_ok-movie.ensures.work told) (scaled told o.0 o.1.opened) walks
 
 pub returns-in_err-carry-2-clause-work : goal.returns-in_err-carry-2-clause-work
 returns-in_err-carry-2-clause-work g c = λ told.
@@ -316,8 +318,8 @@ returns-in_err-carry-2-clause-work g c = λ told.
     let are = rw (e.honesty, e.file, c.when_told-words.ensures) at c.in_ok-scales.ensures.scales in
     let scaled = rw (e.honesty, e.file, c.when_told-words.ensures) at c.in_ok-scales.ensures.work in
     let walks = ((rw (f.honesty, f.file, e.honesty, e.file, c.as_slice-heads.ensures.value, c.when_told-words.ensures) at c.in_ok-put_tracks.ensures.told) told o.0 o.1.opened
-    (heads_remain c.args.leaving file c.in_ok-movie.movie o.0 c.in_ok-head.head o.1 c.in_ok-head.ensures c.in_ok-scales.scales (are told o.0 o.1.opened) _ (rw c.when_told-words.ensures at c.in_ok-left.ensures.tracks))).steps in
-    printed_within c.args.leaving file c.in_ok-movie.movie o.0 _ _ _ _ o.1 (c.in_ok-movie.ensures.work told) (scaled told o.0 o.1.opened) walks
+    (heads_remain c.args.selection file c.in_ok-movie.movie o.0 c.in_ok-head.head o.1 c.in_ok-head.ensures c.in_ok-scales.scales (are told o.0 o.1.opened) _ (rw c.when_told-words.ensures at c.in_ok-left.ensures.tracks))).steps in
+    printed_within c.args.selection file c.in_ok-movie.movie o.0 _ _ _ _ o.1 (c.in_ok-movie.ensures.work told) (scaled told o.0 o.1.opened) walks
 
 pub returns-clause-work : goal.returns-clause-work
 returns-clause-work g c = λ told.
@@ -328,8 +330,8 @@ returns-clause-work g c = λ told.
     let are = rw (e.honesty, e.file, c.when_told-words.ensures) at c.in_ok-scales.ensures.scales in
     let scaled = rw (e.honesty, e.file, c.when_told-words.ensures) at c.in_ok-scales.ensures.work in
     let walks = ((rw (f.honesty, f.file, e.honesty, e.file, c.as_slice-heads.ensures.value, c.when_told-words.ensures) at c.in_ok-put_tracks.ensures.told) told o.0 o.1.opened
-    (heads_remain c.args.leaving file c.in_ok-movie.movie o.0 c.in_ok-head.head o.1 c.in_ok-head.ensures c.in_ok-scales.scales (are told o.0 o.1.opened) _ (rw c.when_told-words.ensures at c.in_ok-left.ensures.tracks))).steps in
-    printed_within c.args.leaving file c.in_ok-movie.movie o.0 _ _ _ _ o.1 (c.in_ok-movie.ensures.work told) (scaled told o.0 o.1.opened) walks
+    (heads_remain c.args.selection file c.in_ok-movie.movie o.0 c.in_ok-head.head o.1 c.in_ok-head.ensures c.in_ok-scales.scales (are told o.0 o.1.opened) _ (rw c.when_told-words.ensures at c.in_ok-left.ensures.tracks))).steps in
+    printed_within c.args.selection file c.in_ok-movie.movie o.0 _ _ _ _ o.1 (c.in_ok-movie.ensures.work told) (scaled told o.0 o.1.opened) walks
 
 pub returns-clause-least : goal.returns-clause-least
 returns-clause-least g c = on_ok_weaker c.flush.result

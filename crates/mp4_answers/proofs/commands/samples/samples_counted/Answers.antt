@@ -5,7 +5,8 @@ use Rattle.mp4_present.proofs.WalkCopied.{on_ok, on_err, if_err}
 use Rattle.mp4_present.proofs.Causes.{copy_not_carried}
 use Rattle.mp4_present.proofs.ToldTrees.{file_tree_is}
 use Rattle.mp4_answers.specs.format.Answers.{IsFaultOf}
-use Rattle.mp4_answers.specs.format.FileTexts.{ListsSamples, LacksTrack}
+use Rattle.mp4_answers.specs.format.FileTexts.{ListsSamples}
+use Rattle.mp4_answers.specs.format.Selected.{LacksTrack}
 use Rattle.mp4_answers.specs.format.Run.{run_of, Honest}
 use Rattle.mp4_answers.specs.format.Texts.{listing_head, sample_at_lines}
 use Rattle.mp4_answers.proofs.RunParts.{copy_answers, open_fails, put_fails}

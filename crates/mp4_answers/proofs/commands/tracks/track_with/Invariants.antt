@@ -1,7 +1,7 @@
 use Rattle.std.proofs.Common.{take}
 use Rattle.std.specs.Prelude.{map}
 use Rattle.mp4_present.specs.declared.track_info.TrackInfo.{TrackInfo}
-use Rattle.mp4_answers.specs.format.FileTexts.{AreOthers}
+use Rattle.mp4_answers.specs.format.Selected.{AreOthers}
 use Rattle.mp4_answers.proofs.commands.tracks.track_with.Given as goal
 
 -- none of those passed is the track
