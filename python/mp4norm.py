@@ -141,7 +141,8 @@ class Movie:
 @dataclass(frozen=True)
 class Sample:
     """Times are in the track's timescale, which is so many units a second, and in seconds as exact
-    fractions (`float` makes them floats); `number` and `description` count from 1."""
+    fractions (`float` makes them floats); `number` and `description` count from 1. `at` is the place
+    of its first byte in the file, and `fragment` the number of its `moof`, 0 for the tables."""
 
     number: int
     decode_time: int
@@ -150,6 +151,8 @@ class Sample:
     flags: int
     description: int
     size: int
+    at: int
+    fragment: int
     timescale: int = 1
 
     @property
@@ -192,7 +195,8 @@ class Box:
 @dataclass(frozen=True)
 class Difference:
     """The way to a value, as `("track", 1, "sample", 7, "duration")`, and the value in each file.
-    Where it is a byte, `of` is how many there are. docs/COMPARING.md has the lines and kinds."""
+    Where it is a byte, `of` is how many there are. Of a sample `seconds` is when it is decoded in
+    the first file. docs/COMPARING.md has the lines and kinds."""
 
     at: Tuple[Union[str, int], ...]
     a: Union[int, str]
@@ -200,6 +204,7 @@ class Difference:
     kind: str
     line: str
     of: Optional[int] = None
+    seconds: Optional[Fraction] = None
 
     def __str__(self) -> str:
         return self.line
@@ -354,11 +359,16 @@ def compare(a: File, b: File, without: Words = (), limit: int = 100, foreign: bo
         words = ["compare", "--json", listed, "--limit", str(limit), *left, *freed, *alone]
         text = _run(words, [a, b], (0, DIFFERENT))
     *told, last = _objects(text)
-    differences = [_made(Difference, {**it, "at": tuple(it["at"])}) for it in told
-                   if it["kind"] != "aligned"]
+    differences = [_difference(it) for it in told if it["kind"] != "aligned"]
     return Comparison(last["differences"] == 0, last["differences"], last["at_least"],
                       last["kinds"], last["without"], differences,
                       [_aligned(it) for it in told if it["kind"] == "aligned"])
+
+
+def _difference(told: Dict[str, Any]) -> Difference:
+    seconds = told.get("seconds")
+    return _made(Difference, {**told, "at": tuple(told["at"]),
+                              "seconds": None if seconds is None else Fraction(seconds)})
 
 
 def _aligned(told: Dict[str, Any]) -> Alignment:

@@ -138,9 +138,9 @@ class Answers(Case):
             self.assertEqual(mp4norm.show(file), Movie(timescale=1000, mehd=120, tracks=[track]))
 
     def test_samples(self):
-        rows = ((0, 0, 512, 0, 1, 5), (512, 512, 512, 0x10000, 1, 0),
-                (1024, 1024, 512, 0x10000, 1, 7))
-        names = 'decode_time composition_time duration flags description size'.split()
+        rows = ((0, 0, 512, 0, 1, 5, 549, 0), (512, 512, 512, 0x10000, 1, 0, 554, 0),
+                (1024, 1024, 512, 0x10000, 1, 7, 554, 0))
+        names = 'decode_time composition_time duration flags description size at fragment'.split()
         self.assertEqual(mp4norm.samples('plain.mp4', 1), [
             Sample(number, **dict(zip(names, row)), timescale=12800)
             for number, row in enumerate(rows, 1)])
@@ -154,7 +154,8 @@ class Answers(Case):
         self.assertEqual(mp4norm.columns(PLAIN, 1), {
             'number': [1, 2, 3], 'decode_time': [0, 512, 1024], 'composition_time': [0, 512, 1024],
             'duration': [512, 512, 512], 'flags': [0, 65536, 65536], 'description': [1, 1, 1],
-            'size': [5, 0, 7], 'sync': [True, False, False], 'decode_seconds': [0, 0.04, 0.08],
+            'size': [5, 0, 7], 'at': [549, 554, 554], 'fragment': [0, 0, 0],
+            'sync': [True, False, False], 'decode_seconds': [0, 0.04, 0.08],
             'composition_seconds': [0, 0.04, 0.08], 'duration_seconds': [0.04, 0.04, 0.04]})
         self.refuses(FAULT, mp4norm.columns, 'cut.mp4', 1)
         self.fails('plain.mp4', 'no such track', mp4norm.columns, 'plain.mp4', 2)
@@ -206,6 +207,7 @@ class Answers(Case):
         one, = found.differences
         self.assertEqual((one.at, one.a, one.b, one.of, one.kind),
                          (('track', 1, 'sample', 3, 'byte', 4), '62', '78', 7, 'bytes'))
+        self.assertEqual(one.seconds, Fraction(2, 25))
         self.assertEqual(str(one), 'track 1: sample 3: byte 4 of 7: 62 | 78')
         self.assertEqual(str(found), 'track 1: sample 3: byte 4 of 7: 62 | 78\n'
                                      '1 difference: bytes 1; no words make them the same')

@@ -11,6 +11,10 @@ from suite import stored
 TEXTS = 'crates/mp4_answers/specs/format/Texts.antt'
 
 
+# What objects of JSON say too: where a sample lies.
+PLACES = ['at', 'fragment']
+
+
 def columns() -> list[str]:
     """The names, as the definition of what stands before the lines has them."""
     head = r'^listing_head forms\.Named =\s+codes "([^"]*)"'
@@ -41,7 +45,7 @@ def rows_of(section: str) -> list[str]:
 
 def places() -> Iterator:
     """Each place, the names there, and those that are due."""
-    names, in_objects = columns(), sorted(columns())
+    names, in_objects = columns(), sorted(columns() + PLACES)
     object_of_page = behind('docs/PYTHON.md', r'`samples FILE --track ID --json` \| `([^`]*)`')
     yield 'crates/mp4_answers/src/commands/forms.rt', behind(
         'crates/mp4_answers/src/commands/forms.rt', r'NAMES: &\[u8\] = b"([^"\\]*)').split(), names
@@ -60,7 +64,7 @@ def places() -> Iterator:
         'man/mp4norm.1', r'for each sample of a track, in decoding order: ([^.]*)\.')), names
     yield 'python/mp4norm.py', re.findall(
         r'^    (\w+): int$', text('python/mp4norm.py').partition('class Sample:')[2]
-        .partition('@property')[0], re.M), names
+        .partition('@property')[0], re.M), names + PLACES
     yield 'docs/PYTHON.md', list(json.loads(object_of_page or '{}')), in_objects
 
 

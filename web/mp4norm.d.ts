@@ -78,7 +78,8 @@ export interface Movie {
     tracks: Track[];
 }
 
-/** Times are in units of the track's timescale; `number` and `description` count from 1. */
+/** Times are in units of the track's timescale; `number` and `description` count from 1. `at` is the
+    place of its first byte in the file, and `fragment` the number of its `moof`, 0 for the tables. */
 export interface Sample {
     number: number;
     decode_time: Whole;
@@ -87,6 +88,8 @@ export interface Sample {
     flags: number;
     description: number;
     size: number;
+    at: Whole;
+    fragment: Whole;
 }
 
 export interface Box {
@@ -117,6 +120,8 @@ export interface Difference {
     line: string;
     /** Of a byte: of how many. */
     of?: Whole;
+    /** Of a sample: when it is decoded in the first file, as a fraction: "39936/12800". */
+    seconds?: string;
 }
 
 /** What stands in one file between samples that are the same. */

@@ -80,6 +80,8 @@ class Asked:
         if self.command == 'boxes-json':
             return ['boxes', path, '--json']
         track = [] if self.track is None else ['--track', str(self.track)]
+        if self.command == 'samples-json':
+            return ['samples', path, '--json', *track]
         return [self.command, path, *track, *(['--out', out] if self.command in TO_FILES else [])]
 
 
@@ -105,8 +107,14 @@ def of_refused(line: str) -> list[Asked]:
             Asked('extract', 1, answer), Asked('normalise', None, answer)]
 
 
+def of_places(data: bytes) -> list[Asked]:
+    """The answers of `samples` as objects, which say where samples lie."""
+    return [done('samples-json', reader.objects_of(track).encode(), track.id)
+            for track in movie(data).tracks]
+
+
 def of_accepted(data: bytes) -> list[Asked]:
-    """The answers of four commands, by a reader of this suite's own."""
+    """The answers of four commands, of `samples` as objects too, by a reader of this suite's own."""
     found = movie(data)
     if reader.is_misread(found):
         return of_refused('refused by a misreading')
@@ -116,7 +124,7 @@ def of_accepted(data: bytes) -> list[Asked]:
         asked += [done('samples', reader.lines_of(track).encode(), track.id),
                   done('extract', reader.extracted(found, track), track.id)]
     missing = Answer(4, 'failed: no such track')
-    return asked + [Asked('samples', NO_TRACK, missing), Asked('extract', NO_TRACK, missing)]
+    return asked + of_places(data) + [Asked('samples', NO_TRACK, missing), Asked('extract', NO_TRACK, missing)]
 
 
 def of_tracks(data: bytes) -> list[Asked]:

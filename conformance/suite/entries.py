@@ -1,5 +1,5 @@
-"""Sample descriptions that say bit rates, or nearly, and what is left of each without these,
-written by hand."""
+"""Sample descriptions that say bit rates or IDs of streams, or nearly, and what is left of each
+without these, written by hand."""
 from __future__ import annotations
 
 from collections.abc import Iterator
@@ -44,13 +44,14 @@ def decoder(rates: bytes, width: int = 1, said=None, tag: int = 4,
     return descriptor(tag, b'\x40\x15' + rates + more, width, said)
 
 
-def stream(inner: bytes, fields: bytes = b'\0', width: int = 1, said=None, tag: int = 3) -> bytes:
+def stream(inner: bytes, fields: bytes = b'\0', width: int = 1, said=None, tag: int = 3,
+           number: int = 1) -> bytes:
     """The payload of an `esds`: the fields are its flags, and what these say is there."""
-    return bytes(4) + descriptor(tag, u16(1) + fields + inner, width, said)
+    return bytes(4) + descriptor(tag, u16(number) + fields + inner, width, said)
 
 
-def esds(rates: bytes) -> bytes:
-    return box('esds', stream(decoder(rates)))
+def esds(rates: bytes, number: int = 1) -> bytes:
+    return box('esds', stream(decoder(rates), number=number))
 
 
 def of_boxes() -> Iterator:
@@ -161,6 +162,33 @@ def of_others() -> Iterator:
     yield 'a byte behind the btrt of text', b'text', *2 * (other(rate, b'\0'),)
     yield 'a btrt that says more', b'text', *2 * (other(u32(21), rate[4:]),)
     yield 'pictures of text', b'text', pictures(rate, bytes(4)), pictures(rate, bytes(4))
+
+
+def of_numbers() -> Iterator:
+    """IDs of streams: what is left without these, and what without bit rates too."""
+    rate = btrt()
+    for kind, made in ((b'soun', lambda *parts: sound(0, *parts)), (b'vide', pictures)):
+        yield (f'an ID, {kind}', kind, made(esds(RATES), rate), made(esds(RATES, 0), rate),
+               made(esds(NONE, 0)))
+        yield (f'an ID in a wave, {kind}', kind, made(box('wave', esds(RATES), rate)),
+               made(box('wave', esds(RATES, 0), rate)), made(box('wave', esds(NONE, 0))))
+        yield (f'an ID behind what is no box, {kind}', kind,
+               *3 * (made(u32(7) + bytes(8), esds(RATES)),))
+        yield f'a btrt and no ID, {kind}', kind, *2 * (made(rate),), made()
+    yield 'an ID of text', b'text', *3 * (other(esds(RATES)),)
+    yield 'IDs of two', b'soun', sound(1, 2 * esds(NONE)), *2 * (sound(1, 2 * esds(NONE, 0)),)
+    for width in range(1, 6):
+        number = 1 if width == 5 else 0
+        some, none = (box('esds', stream(b'x', width=width, number=it)) for it in (1, number))
+        yield f'an ID behind a length of {width}', b'soun', sound(0, some), *2 * (sound(0, none),)
+    for said in range(6):
+        number = 1 if said in (0, 1, 5) else 0
+        some, none = (box('esds', stream(b'x', said=said, number=it)) for it in (1, number))
+        yield f'an ID in a stream of {said}', b'soun', sound(0, some), *2 * (sound(0, none),)
+    some = box('esds', stream(decoder(RATES), tag=2))
+    yield 'an ID of another descriptor', b'soun', *3 * (sound(0, some),)
+    for length in range(8):
+        yield f'an esds of {length}', b'soun', *3 * (sound(0, box('esds', stream(b'')[:length])),)
 
 
 def cases() -> Iterator:

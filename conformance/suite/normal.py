@@ -41,8 +41,8 @@ def descriptions(track) -> list[Box]:
     kind, entries = handler(track)[8:12], []
     for box in track.descriptions:
         data = bytes(box.payload())
-        if 'bitrates' in track.left:
-            data = rates.left(kind, data)
+        if 'bitrates' in track.left or 'ids' in track.left:
+            data = rates.left(kind, data, track.left)
         if 'labels' in track.left and kind == b'vide' and len(data) >= VISUAL_ENTRY:
             data = data[:COMPRESSOR_NAME.start] + bytes(32) + data[COMPRESSOR_NAME.stop:]
         entries.append(Box(box.kind, data))

@@ -135,8 +135,9 @@ def steps_of(way: str) -> tuple:
     return [*steps, way], None
 
 
-def difference(kind: str, line: str) -> str:
-    """The object of a difference, from its kind and its line."""
+def difference(kind: str, line: str, seconds: str | None = None) -> str:
+    """The object of a difference, from its kind and its line, and from when the sample is decoded
+    that it is of."""
     front, _, rest = line.rpartition(': type ')
     types = TYPE.fullmatch('type ' + rest) if front else None
     if types:
@@ -148,8 +149,8 @@ def difference(kind: str, line: str) -> str:
         steps, of = steps_of(way)
         if steps[-1] not in ('flags', 'language') and 'byte' not in steps[-2:-1]:
             left, right = int(left), int(right)
-    made = {'a': left, 'at': steps, 'b': right, 'kind': kind, 'line': line}
-    return text(made if of is None else {**made, 'of': of})
+    made = {'a': left, 'at': steps, 'b': right, 'kind': kind, 'line': line, 'of': of, 'seconds': seconds}
+    return text({key: value for key, value in made.items() if value is not None})
 
 
 def last(found: list[tuple[str, ...]], words, at_least: bool = False) -> str:

@@ -77,7 +77,8 @@ def nodes(data: bytes, start: int, end: int, is_file: bool = False) -> list[Node
 
 @dataclass
 class Sample:
-    """A sample: its numbers, where its bytes lie, and its index at grouping keys."""
+    """A sample: its numbers, where its bytes lie, its index at grouping keys, and the number of its
+    `moof`, from 1; 0 of the tables."""
     duration: int
     offset: int
     flags: int
@@ -85,6 +86,7 @@ class Sample:
     place: int
     size: int
     groups: dict = field(default_factory=dict)
+    fragment: int = 0
 
     def leave_out(self, words, has_duration: bool, origin: int) -> None:
         """How long it lasts counts or not; the origin is the offset of the first sample."""
@@ -203,8 +205,8 @@ class Movie:
         for trex in extends.all('trex') if extends else []:
             self.defaults[trex.number(4)] = [trex.number(at) for at in (8, 12, 16, 20)]
         self.fragments = [box for box in top if box.kind == 'moof']
-        for moof in self.fragments:
-            read_fragment(moof, self)
+        for number, moof in enumerate(self.fragments, 1):
+            read_fragment(number, moof, self)
 
     def length(self) -> int:
         return max([track.length(self.timescale) for track in self.tracks], default=0)
@@ -378,16 +380,19 @@ def optional(box: Node, flags: int, at: int, *bits) -> tuple:
     return values, at
 
 
-def read_fragment(moof: Node, movie: Movie) -> None:
+def read_fragment(number: int, moof: Node, movie: Movie) -> None:
     base = moof.place
     for traf in moof.all('traf'):
-        end, count = read_track_fragment(traf, moof.place, base, movie)
-        if count or not taken('empty-traf-has-no-place'):
+        end, samples = read_track_fragment(traf, moof.place, base, movie)
+        for sample in samples:
+            sample.fragment = number
+        if samples or not taken('empty-traf-has-no-place'):
             base = end
 
 
-def read_track_fragment(traf: Node, moof_place: int, base: int, movie: Movie) -> tuple[int, int]:
-    """Adds the samples of a `traf` to its track; answers where its data ends, and their number."""
+def read_track_fragment(traf: Node, moof_place: int, base: int,
+                        movie: Movie) -> tuple[int, list[Sample]]:
+    """Adds the samples of a `traf` to its track; answers where its data ends, and which these are."""
     head = traf.one('tfhd')
     track, flags = movie.track(head.number(4)), head.flags()
     at = 8
@@ -406,7 +411,7 @@ def read_track_fragment(traf: Node, moof_place: int, base: int, movie: Movie) ->
     if samples and not track.samples and time:
         track.start = time.number(4, 8 if time.version() else 4)
     track.samples += samples
-    return place, len(samples)
+    return place, samples
 
 
 def read_run(run: Node, base: int, place: int, defaults: list[int], samples: list[Sample]) -> int:
@@ -471,6 +476,19 @@ def lines_of(track: Track) -> str:
     for number, sample in enumerate(track.samples, 1):
         lines.append(f'{number} {time} {time + sample.offset} {sample.duration} '
                      f'{sample.flags:08x} {sample.description} {sample.size}\n')
+        time += sample.duration
+    return ''.join(lines)
+
+
+def objects_of(track: Track) -> str:
+    """The objects that `samples --json` writes."""
+    lines, time = [], track.start
+    for number, sample in enumerate(track.samples, 1):
+        values = {'at': sample.place, 'composition_time': time + sample.offset,
+                  'decode_time': time, 'description': sample.description,
+                  'duration': sample.duration, 'flags': sample.flags, 'fragment': sample.fragment,
+                  'number': number, 'size': sample.size}
+        lines.append(json.dumps(values, separators=(',', ':')) + '\n')
         time += sample.duration
     return ''.join(lines)
 

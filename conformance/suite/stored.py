@@ -64,9 +64,11 @@ COLUMNS = b'number decode_time composition_time duration flags description size\
 
 def objects() -> bytes:
     """The lines of plain.mp4's samples as JSON."""
-    made = b''
+    made, at = b'', PLAIN.index(b'mdat') + 4
     for row in SAMPLES.decode().splitlines():
         numbers = dict(zip(COLUMNS.decode().split(), row.split()))
         parsed = {name: int(it, 16 if name == 'flags' else 10) for name, it in numbers.items()}
+        parsed |= {'at': at, 'fragment': 0}
+        at += parsed['size']
         made += json.dumps(parsed, sort_keys=True, separators=(',', ':')).encode() + b'\n'
     return made

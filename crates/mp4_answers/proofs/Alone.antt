@@ -1,6 +1,7 @@
 -- One track alone, of a presentation and of the boxes that say it.
 use Rattle.std.proofs.Common.{◌≡◌, ℕ, zero, suc, ◌<◌, ◌≤◌, ◌==◌, Bool, true, false, List, [], ◌∷◌, length, map, Option, None, Some, refl, sym, ap, subst, ◌∙◌, arith, eq-eqb}
-use Rattle.std.specs.Prelude.{not, ◌&&◌, ◌||◌, filter, nat_eq, slice_get, IfSome, Result, Ok, Err, IfOk, IfErr}
+use Rattle.std.specs.Prelude.{not, ◌&&◌, ◌||◌, filter, nat_eq, slice_get, option_map, IfSome, Result, Ok, Err, IfOk, IfErr}
+use Rattle.std.specs.Option.{option_or}
 use Rattle.std.specs.List.{AllByRecursion, list_any}
 use Rattle.std.proofs.lemmas.Bool.{eqb-true}
 use Rattle.mp4_boxes.specs.format.Bytes.{AreBytes, sum_of}
@@ -234,13 +235,15 @@ module _ (file : List ℕ) (m : MovieSeen) (tree : FileTree) (o : IsOpenedOwn fi
         (file_parts tree)) tree.movie.tracks k found.0 found.1))
         ∙ ap (λ n. Some n) found.2)
 
-    pub alone_made : (result : Result MovieSeen Refusal) → IfOk result (λ n. IsOpenedAs file n (only_tree (Some k) tree)) → IfOk result (λ n. (n.only ≡ Some k) × (n.waits ≡ m.waits)) → IfOk result (IsAloneOf (Some id) file tree)
-    alone_made (Ok n) opened kept = record {
-      opened = subst (λ (only : Option ℕ). IsOpenedAs file n (only_tree only tree)) (sym kept.0) opened;
-      own_edits = kept.1 ∙ o.own_edits;
-      is = ap (λ (only : Option ℕ). only_tree only tree) kept.0 ∙ alone_is;
-      has = has_it;
-    }
+    pub alone_made : (result : Result MovieSeen Refusal) → IfOk result (λ n. IsOpenedAs file n (only_tree (Some k) tree)) → IfOk result (λ n. (n.only ≡ option_or m.only (Some k)) × (n.waits ≡ option_map (at_place k) m.waits)) → IfOk result (IsAloneOf (Some id) file tree)
+    alone_made (Ok n) opened kept =
+        let only : n.only ≡ Some k = kept.0 ∙ ap (λ (was : Option ℕ). option_or was (Some k)) o.own_tracks in
+        record {
+          opened = subst (λ (only : Option ℕ). IsOpenedAs file n (only_tree only tree)) (sym only) opened;
+          own_edits = kept.1 ∙ ap (option_map (at_place k)) o.own_edits;
+          is = ap (λ (only : Option ℕ). only_tree only tree) only ∙ alone_is;
+          has = has_it;
+        }
     alone_made (Err e) opened kept = tt
 
 -- where it is refused, that is for want of memory

@@ -10,7 +10,10 @@ use Rattle.mp4_present.specs.words.Movies.{MovieSeen}
 use Rattle.mp4_present.specs.format.Waiting.{waiting_tracks}
 use Rattle.mp4_head.specs.format.Head.{Kept}
 use Rattle.mp4_content.specs.declared.aligning.Alignment.{Alignment}
+use Rattle.mp4_content.specs.declared.comparing.differences.DecodeTime.{DecodeTime}
 use Rattle.mp4_content.specs.declared.comparing.differences.Difference.{Difference}
+use Rattle.mp4_content.specs.declared.comparing.differences.Subject.{Subject}
+use Rattle.mp4_content.specs.format.DecodeTimes.{decode_time, decode_times}
 use Rattle.mp4_content.specs.declared.without.Word.{Word}
 use Rattle.mp4_content.specs.declared.without.Without.{Without}
 use Rattle.mp4_content.proofs.ComparisonWhole.{no_difference_is_same}
@@ -19,7 +22,7 @@ use Rattle.mp4_answers.specs.declared.commands.compare.Asked.{Asked}
 use Rattle.mp4_answers.specs.declared.commands.compare.Lines.{Lines}
 use Rattle.mp4_answers.specs.declared.commands.compare.Listing.{Listing}
 use Rattle.mp4_answers.specs.declared.commands.compare.Listing.TheVariants as listings
-use Rattle.mp4_answers.specs.format.CompareHeadline.{AreEnough, AreToldAligned, IsTold, PutsSuch, TellsOf, of_first, of_second, alignment_in, descriptions_in, difference_in, last_in, listing_text, most_counted}
+use Rattle.mp4_answers.specs.format.CompareHeadline.{AreEnough, AreToldAligned, IsTold, PutsSuch, TellsOf, of_first, of_second, alignment_in, descriptions_in, difference_in, differences_in, last_in, listing_text, most_counted}
 use Rattle.mp4_answers.specs.words.Compares.{AreSome, as_asked, IsCounted, IsEnough, IsTried, IsShrunk, IsSameWith, IsFoundOf, IsSaid, IsSaidOf, ListsFront, PutsFound, says_nothing}
 use Rattle.mp4_answers.specs.words.SingleWords.{everything, less_word, single_words}
 use Rattle.mp4_answers.specs.words.TwoFiles.{differ_without}
@@ -36,6 +39,7 @@ use Rattle.mp4_answers.proofs.LeastTimes.{among_others}
 use Rattle.mp4_answers.proofs.WordSets.{covers_all, none_to_take, shrunk}
 use Rattle.mp4_answers.proofs.ComparedFiles.{first_said, opened_valid, true_false}
 use Rattle.mp4_answers.proofs.AskedWords.{among_asked, covers_asked, covers_told, inside_told, lead_same, same_asked, told_as, told_asked}
+use Rattle.mp4_answers.proofs.ComparedTimes.{lines_timed, listing_same, same_time}
 use Rattle.mp4_answers.proofs.OpenedTold.{shown_limits, shows_told}
 use Rattle.mp4_answers.specs.words.OpenedTold.{IsOpenedTold}
 use Rattle.mp4_boxes.proofs.Plain.{nat_le_no}
@@ -58,12 +62,14 @@ module _ (most : ℕ) where
   front_whole listed ds (inl e) = ap (λ (xs : List Difference). nat_le (length xs) most) e
   front_whole listed ds (inr h) = ap (λ (xs : List Difference). nat_le (length xs) most) h.2 ∙ still_more h.1 ds (subst (λ (xs : List Difference). most < length xs) h.2 h.0)
 
-pub counted_listed : (lines : Lines) (found : List Alignment) (listed ds all : List Difference) (whole : Bool) (enough : Option Without) (text : List ℕ) → ListsFront listed ds → all ≡ take most_counted listed → whole ≡ nat_le (length listed) most_counted
-    → IsCounted lines found all whole enough text → text ≡ listing_text lines found ds enough
-counted_listed lines found listed ds all whole enough text front is so h =
+pub counted_listed : (lines : Lines) (p : Presentation) (found : List Alignment) (times : List (Option DecodeTime)) (listed ds all : List Difference) (whole : Bool) (enough : Option Without) (text : List ℕ) → ListsFront listed ds → times ≡ decode_times p listed → all ≡ take most_counted listed
+    → whole ≡ nat_le (length listed) most_counted → IsCounted lines found times all whole enough text → text ≡ listing_text lines p found ds enough
+counted_listed lines p found times listed ds all whole enough text front timed is so h =
     let taken : all ≡ take most_counted ds = is ∙ front_taken most_counted listed ds front in
     let told : whole ≡ nat_le (length ds) most_counted = so ∙ front_whole most_counted listed ds front in
-    h ∙ (λ i. flat_map (alignment_in lines.syntax) found ++ flat_map (difference_in lines.syntax) (take lines.limit (taken i)) ++ last_in lines.syntax (told i) (taken i) enough)
+    let said = lines_timed lines.form p times listed all lines.limit most_counted timed is in
+    h ∙ (λ i. flat_map (alignment_in lines.form) found ++ said i ++ last_in lines.form whole all enough)
+    ∙ (λ i. flat_map (alignment_in lines.form) found ++ differences_in lines.form p (take lines.limit (taken i)) ++ last_in lines.form (told i) (taken i) enough)
 
 -- ---- what differs, by what is left out
 
@@ -210,11 +216,14 @@ module _ (l : Without) (p q r s : Presentation) (v : Valid r) (w : Valid s) (sho
   aligned_told : (b : Bool) (found : List Alignment) → AreToldAligned b (words_told l) r s found → AreToldAligned b (words_told l) (told l.lead_ins p) (told l.lead_ins q) found
   aligned_told b found h = subst (λ (y : Presentation). AreToldAligned b (words_told l) (told l.lead_ins p) y found) other (subst (λ (x : Presentation). AreToldAligned b (words_told l) x s found) shown h)
 
+  timed_alike : (of : Subject) → decode_time r of ≡ decode_time p of
+  timed_alike of = ap (λ (x : Presentation). decode_time x of) shown ∙ same_time l.lead_ins p of
+
   tells_of : (listing : Listing) (text : List ℕ) → IsSaidOf listing l (words_told l) r s text → TellsOf listing l p q text
-  tells_of (listings.First syntax) text h =
+  tells_of (listings.First form) text h =
       let one = left_at l p r shown refl in
       let two = left_at l q s other refl in
-      (h.0, (λ i. slice_get (differences (one i) (two i)) 0) ∙ h.1, h.2)
+      (h.0, (λ i. slice_get (differences (one i) (two i)) 0) ∙ h.1, h.2 ∙ ap (λ (time : Option DecodeTime). difference_in form time h.0) (timed_alike h.0.subject))
   tells_of (listings.All lines) text (found, beside, enough, is, told_so) =
       let one = left_at l p r shown refl in
       let two = left_at l q s other refl in (
@@ -222,7 +231,7 @@ module _ (l : Without) (p q r s : Presentation) (v : Valid r) (w : Valid s) (sho
         aligned_told lines.aligned found beside,
         option_map (as_asked l) enough,
         enough_asked enough (enough_of_both (words_told l) r s v w enough is),
-        told_so ∙ (λ i. listing_text lines found (listed lines.aligned (sym one i) (sym two i)) (option_map (as_asked l) enough)),
+        told_so ∙ listing_same lines r p found _ _ timed_alike ∙ (λ i. listing_text lines p found (listed lines.aligned (sym one i) (sym two i)) (option_map (as_asked l) enough)),
       )
 
 pub told_of : {A : Type 0} (bytes : A → List ℕ) (asked : Asked) (file other : List ℕ) (m n : MovieSeen) (found : Option A) (same : Bool) (Took : List ℕ → Type 0) → same ≡ says_nothing found → same ≡ false → PutsFound bytes found Took

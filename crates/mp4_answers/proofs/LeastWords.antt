@@ -7,7 +7,7 @@ use Rattle.mp4_present.specs.format.Presentation.{Sample, Track, Presentation}
 use Rattle.mp4_content.specs.format.Reduced.{first_offset, is_at_end, reduce}
 use Rattle.mp4_content.specs.declared.without.Without.{Without}
 use Rattle.mp4_content.specs.format.Agreeing.{AllAgree, SamplesAgree, MediaAgree, TrackHeadsAgree, MovieHeadsAgree, TracksAgree}
-use Rattle.mp4_content.proofs.Agreed.{plain_of, reduce_is_exact, type_of_left, unrated_of}
+use Rattle.mp4_content.proofs.Agreed.{reduce_is_exact, same_descriptions, type_of_left}
 use Rattle.mp4_answers.specs.format.CompareHeadline.{descriptions_in}
 use Rattle.mp4_answers.proofs.WordSets.{common}
 use Rattle.mp4_boxes.proofs.Plain.{and_is_true, head_is, tail_is}
@@ -49,7 +49,7 @@ module _ (k m : Without) (timed : k.timing ≡ m.timing) where
 
   media_agree : (a b : Media) → a.descriptions ≡ b.descriptions → MediaAgree k a b → MediaAgree m a b → MediaAgree (common k m) a b
   media_agree a b same g h =
-      let kind = type_of_left a.handler b.handler a.descriptions b.descriptions true g.left_handler in
+      let kind = type_of_left a.handler b.handler true g.left_handler in
       record {
         timescale = either k.timing m.timing g.timescale h.timescale;
         language = g.language;
@@ -59,10 +59,7 @@ module _ (k m : Without) (timed : k.timing ≡ m.timing) where
         modification = either k.times m.times g.modification h.modification;
         handler = either k.labels m.labels g.handler h.handler;
         left_handler = g.left_handler;
-        descriptions = λ named rated. same;
-        plain = λ rated. plain_of a.handler b.handler a.descriptions b.descriptions kind a.descriptions b.descriptions same;
-        unrated = λ named. unrated_of a.handler b.handler a.descriptions b.descriptions kind a.descriptions b.descriptions same;
-        left_descriptions = g.left_descriptions;
+        descriptions = same_descriptions (common k m) a.handler b.handler a.descriptions b.descriptions kind same;
       }
 
   track_heads_agree : (a b : TrackHead) → a.media.descriptions ≡ b.media.descriptions → TrackHeadsAgree k a b → TrackHeadsAgree m a b → TrackHeadsAgree (common k m) a b

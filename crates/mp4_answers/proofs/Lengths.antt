@@ -36,11 +36,11 @@ use Rattle.mp4_answers.proofs.Alone.{shows_one}
 
 -- ---- a track with an ID is one
 
-got_in : {A : Type 0} (xs : List A) (k : ℕ) (x : A) → slice_get xs k ≡ Some x → IsIn xs x
+pub got_in : {A : Type 0} (xs : List A) (k : ℕ) (x : A) → slice_get xs k ≡ Some x → IsIn xs x
 got_in xs k x e = get_every (λ y. IsIn xs y) xs k x e (each_member (λ y. IsIn xs y) xs (λ y i. i))
 
 -- the IDs of what a file denotes are distinct
-distinct_ids : (file : List ℕ) (p : Presentation) → Denotes file p → are_distinct (map (λ (t : Track). t.head.id) p.tracks) ≡ true
+pub distinct_ids : (file : List ℕ) (p : Presentation) → Denotes file p → are_distinct (map (λ (t : Track). t.head.id) p.tracks) ≡ true
 distinct_ids file p d =
     let t = d.tree in
     let ids = map_twice (track_of file (file_parts t)) (λ (u : Track). u.head.id) t.movie.tracks ∙ sym (map_twice track_head_of (λ (h : TrackHead). h.id) t.movie.tracks) in

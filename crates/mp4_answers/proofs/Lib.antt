@@ -49,6 +49,7 @@ mod WordLists
 mod LeastWords
 mod LeastTimes
 pub mod AskedWords
+pub mod ComparedTimes
 pub mod ComparedTexts
 pub mod SameAnswers
 pub mod OneTexts
@@ -75,4 +76,5 @@ mod ShortForms
 pub mod SampleLists
 pub mod FieldParts
 pub mod FieldReads
+pub mod InFragments
 mod NamesFound

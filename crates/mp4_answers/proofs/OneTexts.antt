@@ -1,25 +1,33 @@
 -- A job has one text of a file.
 use Rattle.std.proofs.Common.{◌≡◌, ℕ, zero, suc, ◌+◌, ◌<◌, ◌≤◌, List, [], ◌∷◌, ◌++◌, length, take, drop, Option, Some, None, Ok, refl, sym, ap, subst, ◌∙◌, arith}
-use Rattle.std.specs.Prelude.{Bool}
-use Rattle.std.specs.List.{AllZip, concat}
+use Rattle.std.specs.Prelude.{Bool, map, true}
+use Rattle.std.specs.List.{AllZip, concat, slice_get}
 use Rattle.serde_json.specs.Written.{compact_text}
 use Rattle.mp4_boxes.specs.format.Box.{Box, Container, Header, header_at, box_container}
 use Rattle.mp4_boxes.specs.format.Places.{ruled, containers, at_kind}
 use Rattle.mp4_boxes.specs.declared.rule.Rule.{Rule}
 use Rattle.mp4_boxes.specs.declared.rule.Rule.TheVariants.{File}
 use Rattle.mp4_boxes.proofs.Tiling.{header_is, tiles_one}
+use Rattle.mp4_head.specs.format.Tree.{TrackTree, are_distinct, track_head_of}
+use Rattle.mp4_head.proofs.Distinct.{distinct_same, map_twice}
+use Rattle.mp4_present.specs.format.Denotes.{FileTree, file_parts, presentation_of, track_of}
+use Rattle.mp4_present.specs.format.Judge.{judge}
 use Rattle.mp4_present.specs.format.Presentation.{Track, Presentation}
+use Rattle.mp4_present.proofs.JudgedTrees.{judged_denotes}
+use Rattle.mp4_present.proofs.One.{file_tree_one}
 use Rattle.mp4_content.specs.format.LeadIns.{left_of}
 use Rattle.mp4_plan.specs.format.Normal.{normal}
 use Rattle.mp4_plan.proofs.Judged.{judged_one}
 use Rattle.mp4_answers.specs.declared.box_names.Name.{Name}
 use Rattle.mp4_answers.specs.declared.jobs.BoxForm.{BoxForm}
 use Rattle.mp4_answers.specs.format.OneTextLaws.{StripIsOne, ListOfBoxesIsOne, JudgedTextsAreOne}
+use Rattle.mp4_answers.specs.declared.jobs.Form.{Form}
+use Rattle.mp4_answers.specs.format.FileTexts.{IsTreeWith, sample_spots}
 use Rattle.mp4_answers.specs.format.Strips.{is_top, freed, Strips, ends, frees, keeps, enters}
 use Rattle.mp4_answers.specs.format.Text.{text}
 use Rattle.mp4_answers.specs.format.BoxTexts.{AreBoxLines, box_line}
 use Rattle.mp4_answers.specs.format.Texts.{descends, line_feed, show_value, sample_listing, sample_data, IsPart}
-use Rattle.mp4_answers.proofs.Lengths.{track_is_one}
+use Rattle.mp4_answers.proofs.Lengths.{distinct_ids, got_in, track_is_one}
 use Rattle.mp4_answers.proofs.StripCopies.{next_freed, next_kept, next_entered, nothing_stands}
 use Rattle.mp4_answers.proofs.Alone.{shows_one}
 
@@ -87,12 +95,29 @@ list_of_boxes_is_one form file text other x y = lines_one form 6 0 File _ text o
 
 -- ---- texts of what a file is judged to be
 
+-- the IDs of the boxes of an accepted file are distinct
+tree_ids : (file : List ℕ) (tree : FileTree) → judge file ≡ Ok (presentation_of file tree) → are_distinct (map (λ (x : TrackTree). (track_head_of x).id) tree.movie.tracks) ≡ true
+tree_ids file tree e =
+    let each = map_twice (track_of file (file_parts tree)) (λ (u : Track). u.head.id) tree.movie.tracks in
+    sym (ap are_distinct each) ∙ distinct_ids file (presentation_of file tree) (judged_denotes file (presentation_of file tree) e)
+
+-- a file has one track of boxes with an ID
+tree_is_one : (file : List ℕ) (id : ℕ) (tree other : FileTree) (t u : TrackTree) → IsTreeWith file id tree t → IsTreeWith file id other u → (other ≡ tree) × (u ≡ t)
+tree_is_one file id tree other t u i j =
+    let same = file_tree_one file other tree j.is_tree i.is_tree in
+    let there : slice_get tree.movie.tracks j.place ≡ Some u = ap (λ (x : FileTree). slice_get x.movie.tracks j.place) (sym same) ∙ j.is_there in
+    (same, distinct_same (λ (x : TrackTree). (track_head_of x).id) tree.movie.tracks u t (tree_ids file tree i.judged) (got_in tree.movie.tracks j.place u there) (got_in tree.movie.tracks i.place t i.is_there) (j.id_is ∙ sym i.id_is))
+
+listing_one : (file : List ℕ) (form : Form) (tree other : FileTree) (t u : TrackTree) → (other ≡ tree) × (u ≡ t)
+    → sample_listing form (track_of file (file_parts other) u) (sample_spots other u) ≡ sample_listing form (track_of file (file_parts tree) t) (sample_spots tree t)
+listing_one file form tree other t u e = λ j. sample_listing form (track_of file (file_parts (e.0 j)) (e.1 j)) (sample_spots (e.0 j) (e.1 j))
+
 pub judged_texts_are_one : JudgedTextsAreOne
 judged_texts_are_one = record {
   normal_form = λ file bytes other x y. x.2 ∙ ap (λ (p : Presentation). normal p) (judged_one file x.0 y.0 x.1 y.1) ∙ sym y.2;
   reduced_form = λ s file bytes other x y. x.3 ∙ ap (λ (p : Presentation). normal (left_of s.leaving p)) (shows_one s.track file x.0 y.0 x.1 y.1) ∙ sym y.3;
   shown = λ file bytes other x y. x.2 ∙ ap (λ (p : Presentation). compact_text (show_value p) ++ line_feed) (judged_one file x.0 y.0 x.1 y.1) ∙ sym y.2;
-  listed = λ file id form bytes other x y. x.2 ∙ ap (λ (t : Track). sample_listing form t) (track_is_one file id x.0 y.0 x.1 y.1) ∙ sym y.2;
+  listed = λ file id form bytes other x y. x.3 ∙ sym (listing_one file form x.0 y.0 x.1 y.1 (tree_is_one file id x.0 y.0 x.1 y.1 x.2 y.2)) ∙ sym y.3;
   extracted = λ file id bytes other x y. x.2 ∙ ap (λ (t : Track). sample_data t) (track_is_one file id x.0 y.0 x.1 y.1) ∙ sym y.2;
   printed = λ s file bytes other x y. x.3 ∙ ap (λ (p : Presentation). text s.leaving p) (shows_one s.track file x.0 y.0 x.1 y.1) ∙ sym y.3;
 }

@@ -1,9 +1,12 @@
 -- What the commands answer, taken together: the same file, or the same presentation.
-use Rattle.std.proofs.Common.{◌≡◌, ◌⊎◌, inl, inr, ℕ, ◌<◌, Bool, true, false, ◌||◌, List, refl, sym, ap, subst, ◌∙◌}
+use Rattle.std.proofs.Common.{◌≡◌, ◌⊎◌, inl, inr, ℕ, zero, suc, ◌+◌, ◌<◌, Bool, true, false, ◌||◌, List, [], ◌∷◌, ◌++◌, drop, map, Some, Ok, refl, sym, ap, subst, ◌∙◌}
 use Rattle.mp4_boxes.proofs.Each.{each_weaker}
-use Rattle.mp4_boxes.proofs.Plain.{false_true}
+use Rattle.std.specs.List.{slice_get}
+use Rattle.mp4_boxes.proofs.Plain.{false_true, get_map}
 use Rattle.mp4_boxes.specs.format.Bytes.{AreBytes}
-use Rattle.mp4_present.specs.format.Presentation.{IsTrack, Presentation, Track, Valid}
+use Rattle.mp4_head.specs.format.Tree.{TrackTree}
+use Rattle.mp4_present.specs.format.Denotes.{FileTree, file_parts, presentation_of, track_of}
+use Rattle.mp4_present.specs.format.Presentation.{IsTrack, Presentation, Sample, Track, Valid}
 use Rattle.mp4_present.specs.format.Judge.{judge}
 use Rattle.mp4_content.specs.format.LeadIns.{kept, left_of, told, words_told}
 use Rattle.mp4_content.specs.format.LeadInsLaws.{HasTimescales, KeepsBeginnings}
@@ -20,9 +23,12 @@ use Rattle.mp4_answers.specs.format.Told.{IsLeftInLimits}
 use Rattle.mp4_plan.proofs.Judged.{denoted_judged, normal_judged}
 use Rattle.mp4_plan.proofs.ReducedNormal.{reduced_normal_is_exact}
 use Rattle.mp4_present.proofs.DenotedOpens.{stands_refuses}
-use Rattle.mp4_answers.specs.format.SameAnswers.{AcceptedHasNoFault, NormalFormDenotesTheSame, NormalFormHasTheSameData, NormalFormListsTheSame, NormalFormShowsTheSame, SameIsSameBytes, SameStaysSame}
+use Rattle.mp4_answers.specs.format.SameAnswers.{AcceptedHasNoFault, NormalFormDenotesTheSame, NormalFormHasTheSameData, NormalFormListsTheSame, NormalFormListsTheSameSamples, NormalFormShowsTheSame, SameIsSameBytes, SameStaysSame}
 use Rattle.mp4_answers.specs.format.Headline.{HasNormalForm}
-use Rattle.mp4_answers.specs.format.FileTexts.{IsTrackWith}
+use Rattle.mp4_answers.specs.declared.jobs.Form.{Form}
+use Rattle.mp4_answers.specs.declared.jobs.Form.TheVariants as forms
+use Rattle.mp4_answers.specs.format.FileTexts.{IsTrackWith, IsTreeWith, ListsSamples, sample_spots}
+use Rattle.mp4_answers.specs.format.Texts.{Spot, first_spot, listing_head, sample_line, sample_lines_from, sample_listing}
 use Rattle.mp4_answers.proofs.Alone.{shows_one, shows_valid}
 
 -- ---- verdicts
@@ -112,8 +118,52 @@ module _ (file text : List ℕ) (x : AreBytes file) (form : HasNormalForm file t
   track_from : (id : ℕ) (t : Track) → IsTrackWith text id t → IsTrackWith file id t
   track_from id t h = record { p = h.p; judged = sym (normal_form_judged_the_same file text x form) ∙ h.judged; place = h.place; is_there = h.is_there; id_is = h.id_is }
 
+-- the place of what becomes this
+from_map : {A B : Type 0} (f : A → B) (xs : List A) (k : ℕ) (y : B) → slice_get (map f xs) k ≡ Some y → (x : A) × (slice_get xs k ≡ Some x) × (y ≡ f x)
+from_map f [] k y e = absurd cc
+from_map f (x ∷ xs) zero y e = (x, refl, cc)
+from_map f (x ∷ xs) (suc k) y e = from_map f xs k y e
+
+-- a track of what a file is judged to be is one of its boxes
+listed_of : (file : List ℕ) (id : ℕ) (form : Form) (t : Track) → IsTrackWith file id t → (spots : List Spot) × ListsSamples file id form (sample_listing form t spots)
+listed_of file id form t h =
+    let d = judged_denotes file h.p h.judged in
+    let u = from_map (track_of file (file_parts d.tree)) d.tree.movie.tracks h.place t (ap (λ (q : Presentation). slice_get q.tracks h.place) (sym d.says) ∙ h.is_there) in (
+      sample_spots d.tree u.0,
+      (
+        d.tree,
+        u.0,
+        record { is_tree = d.is_tree; judged = h.judged ∙ ap (λ (q : Presentation). Ok q) d.says; place = h.place; is_there = u.1; id_is = ap (λ (x : Track). x.head.id) (sym u.2) ∙ h.id_is },
+        ap (λ (x : Track). sample_listing form x (sample_spots d.tree u.0)) u.2,
+      ),
+    )
+
+of_listed : (file : List ℕ) (id : ℕ) (tree : FileTree) (t : TrackTree) → IsTreeWith file id tree t → IsTrackWith file id (track_of file (file_parts tree) t)
+of_listed file id tree t h = record { p = presentation_of file tree; judged = h.judged; place = h.place; is_there = get_map (track_of file (file_parts tree)) tree.movie.tracks h.place t h.is_there; id_is = h.id_is }
+
+-- lines don't say where samples lie
+lines_anywhere : (form : Form) → (form ≡ forms.Json → ⊥) → (i time : ℕ) (samples : List Sample) (a b : List Spot) → sample_lines_from form i time samples a ≡ sample_lines_from form i time samples b
+lines_anywhere form lines i time [] a b = refl
+lines_anywhere forms.Plain lines i time (s ∷ samples) a b = ap (λ (text : List ℕ). sample_line forms.Plain i time s (first_spot b) ++ text) (lines_anywhere forms.Plain lines (i + 1) (time + s.duration) samples (drop 1 a) (drop 1 b))
+lines_anywhere forms.Named lines i time (s ∷ samples) a b = ap (λ (text : List ℕ). sample_line forms.Named i time s (first_spot b) ++ text) (lines_anywhere forms.Named lines (i + 1) (time + s.duration) samples (drop 1 a) (drop 1 b))
+lines_anywhere forms.Json lines i time (s ∷ samples) a b = absurd (lines refl)
+
+-- what is listed of one file is listed of another that has the same tracks
+lists_too : (file text : List ℕ) (id : ℕ) (form : Form) → ((t : Track) → IsTrackWith file id t → IsTrackWith text id t) → (form ≡ forms.Json → ⊥) → (lines : List ℕ) → ListsSamples file id form lines → ListsSamples text id form lines
+lists_too file text id form to plain lines h =
+    let t = track_of file (file_parts h.0) h.1 in
+    let other = listed_of text id form t (to t (of_listed file id h.0 h.1 h.2)) in
+    let same = ap (λ (ls : List ℕ). listing_head form ++ ls) (lines_anywhere form plain 1 t.start t.samples other.0 (sample_spots h.0 h.1)) in
+    subst (ListsSamples text id form) (same ∙ sym h.3) other.1
+
 pub normal_form_lists_the_same : NormalFormListsTheSame
-normal_form_lists_the_same file text x form id kind lines = (λ h. (h.0, track_to file text x form id h.0 h.1, h.2), λ h. (h.0, track_from file text x form id h.0 h.1, h.2))
+normal_form_lists_the_same file text x form id kind lines plain = (lists_too file text id kind (track_to file text x form id) plain lines, lists_too text file id kind (track_from file text x form id) plain lines)
+
+pub normal_form_lists_the_same_samples : NormalFormListsTheSameSamples
+normal_form_lists_the_same_samples file text x form id kind lines h =
+    let t = track_of file (file_parts h.0) h.1 in
+    let other = listed_of text id kind t (track_to file text x form id t (of_listed file id h.0 h.1 h.2)) in
+    (t, sample_spots h.0 h.1, other.0, h.3, other.1)
 
 pub normal_form_has_the_same_data : NormalFormHasTheSameData
 normal_form_has_the_same_data file text x form id bytes = (λ h. (h.0, track_to file text x form id h.0 h.1, h.2), λ h. (h.0, track_from file text x form id h.0 h.1, h.2))

@@ -19,7 +19,10 @@ use Rattle.mp4_present.proofs.SamplesLie.{all_whole, timed_data}
 use Rattle.mp4_answers.specs.format.FileTexts.{IsTrackWith, ListsSamples, HasData}
 use Rattle.mp4_answers.specs.format.Selected.{AreOthers, LacksTrack}
 use Rattle.mp4_answers.specs.declared.jobs.Form.{Form}
-use Rattle.mp4_answers.specs.format.Texts.{listing_head, sample_at_lines}
+use Rattle.mp4_answers.specs.format.Texts.{lines_in_fragments, listing_head}
+use Rattle.mp4_present.specs.format.SamplePlaces.{sample_fragments}
+use Rattle.mp4_present.proofs.ToldTrees.{file_tree_is}
+use Rattle.mp4_answers.proofs.InFragments.{numbers_each}
 use Rattle.mp4_answers.proofs.SampleTexts.{lines_of_placed}
 use Rattle.mp4_answers.proofs.ShownLines.{LieInFile, each_lies, judged}
 
@@ -76,8 +79,13 @@ lacks file m tree id o h = (presentation_of file tree, judged file m tree o, sub
 
 -- ---- its texts
 
-pub lists : (form : Form) (file : List ℕ) (tree : FileTree) (k id : ℕ) → (f : IsFound file tree k id) → ListsSamples file id form (listing_head form ++ sample_at_lines form 1 (track_samples tree f.t))
-lists form file tree k id f = (track_of file (file_parts tree) f.t, f.with_id, ap (λ (text : List ℕ). listing_head form ++ text) (lines_of_placed form file _ 1 _ _ (placed_of (file_parts tree) f.t) (all_whole file (placed_of (file_parts tree) f.t) f.lies)))
+pub lists : (form : Form) (file : List ℕ) (m : MovieSeen) (tree : FileTree) (k id : ℕ) → IsOpenedOwn file m tree → (f : IsFound file tree k id) → ListsSamples file id form (listing_head form ++ lines_in_fragments form 1 (sample_fragments tree f.t) (track_samples tree f.t))
+lists form file m tree k id o f = (
+  tree,
+  f.t,
+  record { is_tree = file_tree_is file m tree o; judged = judged file m tree o; place = k; is_there = f.is_there; id_is = f.with_id.id_is },
+  ap (λ (text : List ℕ). listing_head form ++ text) (lines_of_placed form file _ 1 _ _ (placed_of (file_parts tree) f.t) (sample_fragments tree f.t) (numbers_each file m tree f.t o.opened) (all_whole file (placed_of (file_parts tree) f.t) f.lies)),
+)
 
 pub has_data : (file : List ℕ) (tree : FileTree) (k id : ℕ) → (f : IsFound file tree k id) → HasData file id (sample_bytes file (track_samples tree f.t))
 has_data file tree k id f = (track_of file (file_parts tree) f.t, f.with_id, timed_data file _ _ _ (placed_of (file_parts tree) f.t) f.lies)

@@ -9,22 +9,23 @@ use Rattle.mp4_present.proofs.Vectors.{p_presentation, p_samples}
 use Rattle.mp4_head.proofs.Vectors.{p_track}
 use Rattle.mp4_boxes.proofs.Vectors.{v1, v1_moov, v1_mvhd, v1-tiles, v1-moov-tiles}
 use Rattle.mp4_answers.specs.format.BoxTexts.{BoxLines, box_line, without_fields}
-use Rattle.mp4_answers.specs.format.Texts.{fault_line, sample_lines, sample_listing, show_value}
+use Rattle.mp4_answers.specs.format.Texts.{fault_line, sample_lines, sample_listing, show_value, spots}
 use Rattle.mp4_answers.specs.declared.jobs.Form.TheVariants as forms
 use Rattle.mp4_answers.specs.declared.jobs.Syntax.TheVariants as syntaxes
 
-p-lines : sample_lines forms.Plain (record { head = p_track; start = 0; samples = p_samples })
+p-lines : sample_lines forms.Plain (record { head = p_track; start = 0; samples = p_samples }) []
     ≡ codes "1 0 0 512 00000000 1 5" ++ 10 ∷ codes "2 512 512 512 00010000 1 0" ++ 10 ∷ codes "3 1024 1024 512 00010000 1 7" ++ 10 ∷ []
 unfolding digits
 p-lines = refl
 
-p-headed : sample_listing forms.Named (record { head = p_track; start = 0; samples = p_samples }) ≡ codes "number decode_time composition_time duration flags description size" ++ 10 ∷ sample_lines forms.Plain (record { head = p_track; start = 0; samples = p_samples })
+p-headed : sample_listing forms.Named (record { head = p_track; start = 0; samples = p_samples }) [] ≡ codes "number decode_time composition_time duration flags description size" ++ 10 ∷ sample_lines forms.Plain (record { head = p_track; start = 0; samples = p_samples }) []
 unfolding digits
 p-headed = refl
 
-p-json : sample_listing forms.Json (record { head = p_track; start = 0; samples = p_samples })
-    ≡ codes "{\"composition_time\":0,\"decode_time\":0,\"description\":1,\"duration\":512,\"flags\":0,\"number\":1,\"size\":5}" ++ 10 ∷ codes "{\"composition_time\":512,\"decode_time\":512,\"description\":1,\"duration\":512,\"flags\":65536,\"number\":2,\"size\":0}"
-    ++ 10 ∷ codes "{\"composition_time\":1024,\"decode_time\":1024,\"description\":1,\"duration\":512,\"flags\":65536,\"number\":3,\"size\":7}" ++ 10 ∷ []
+p-json : sample_listing forms.Json (record { head = p_track; start = 0; samples = p_samples }) (spots (733 ∷ 746 ∷ 746 ∷ []) (0 ∷ 1 ∷ 2 ∷ []))
+    ≡ codes "{\"at\":733,\"composition_time\":0,\"decode_time\":0,\"description\":1,\"duration\":512,\"flags\":0,\"fragment\":0,\"number\":1,\"size\":5}" ++ 10
+    ∷ codes "{\"at\":746,\"composition_time\":512,\"decode_time\":512,\"description\":1,\"duration\":512,\"flags\":65536,\"fragment\":1,\"number\":2,\"size\":0}" ++ 10
+    ∷ codes "{\"at\":746,\"composition_time\":1024,\"decode_time\":1024,\"description\":1,\"duration\":512,\"flags\":65536,\"fragment\":2,\"number\":3,\"size\":7}" ++ 10 ∷ []
 unfolding digits serde_json_on_literals
 p-json = refl
 

@@ -17,6 +17,7 @@ pub mod LastLine
 pub mod WordLists
 pub mod DifferenceObject
 pub mod AlignedLine
+pub mod TimedLine
 pub mod CompareHeadline
 pub mod FileTexts
 pub mod Lengths

@@ -1,7 +1,7 @@
 //! Laws of what the commands answer, taken together.
 ghost use Rattle.mp4_answers.specs.format.OneTextLaws.{StripIsOne, ListOfBoxesIsOne, JudgedTextsAreOne};
 ghost use Rattle.mp4_answers.specs.format.Steps.{StepsByTracks};
-ghost use Rattle.mp4_answers.specs.format.SameAnswers.{AcceptedHasNoFault, FaultIsJudged, LeftFaultIsOne, LeftFaultRefuses, NormalFormDenotesTheSame, NormalFormHasTheSameData, NormalFormListsTheSame, NormalFormShowsTheSame, OneTrackIsWhole, SameIsSameBytes, SameStaysSame, ShownIsValid, ToldIsJudged, UntoldIsJudged};
+ghost use Rattle.mp4_answers.specs.format.SameAnswers.{AcceptedHasNoFault, FaultIsJudged, LeftFaultIsOne, LeftFaultRefuses, NormalFormDenotesTheSame, NormalFormHasTheSameData, NormalFormListsTheSame, NormalFormListsTheSameSamples, NormalFormShowsTheSame, OneTrackIsWhole, SameIsSameBytes, SameStaysSame, ShownIsValid, ToldIsJudged, UntoldIsJudged};
 
 /// `compare --without` says that two files are the same exactly if `normalise --without` of both
 /// gives the same bytes, where both are not too long.
@@ -25,9 +25,14 @@ pub fn normal_form_shows_the_same()
     ensures { NormalFormShowsTheSame }
 {}
 
-/// And so does `samples`.
+/// And so does `samples`, but for objects of JSON, which say where samples lie.
 pub fn normal_form_lists_the_same()
     ensures { NormalFormListsTheSame }
+{}
+
+/// Objects of JSON list the same samples, each where it lies.
+pub fn normal_form_lists_the_same_samples()
+    ensures { NormalFormListsTheSameSamples }
 {}
 
 /// And so does `extract`.

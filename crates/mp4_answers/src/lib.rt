@@ -55,7 +55,7 @@ pub use commands::answer_len::text_len;
 pub use commands::box_path::{Way, way_to};
 pub use commands::boxes::{boxes, boxes_as, boxes_with_fields};
 pub use commands::check::{check, check_counted};
-pub use commands::compare::{Asked, Failure, Lines, Listing, Side, compare_files};
+pub use commands::compare::{Asked, Failure, LineForm, Lines, Listing, Side, compare_files};
 pub use commands::extract::{extract, extract_counted};
 pub use commands::normalise::{normalise, normalise_counted};
 pub use commands::normalise_reduced::normalise_reduced;

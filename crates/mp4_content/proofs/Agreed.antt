@@ -1,13 +1,12 @@
 -- What is left of two presentations is the same exactly where they agree.
 use Rattle.std.proofs.Common.{◌≡◌, ℕ, suc, ◌-◌, ◌*◌, ◌/◌, ◌%◌, ◌^◌, min, Bool, true, false, if◌then◌else◌, List, [], ◌∷◌, length, refl, sym, ap, ◌∙◌, arith}
-use Rattle.std.specs.Prelude.{◌&&◌, map, filter, codes, bytes_eq, ℤ, pos, ◌-ℤ◌}
+use Rattle.std.specs.Prelude.{◌&&◌, map, filter, ℤ, pos, ◌-ℤ◌}
 use Rattle.std.specs.List.{AllZip}
 use Rattle.mp4_head.specs.format.Head.{Kept, Media, TrackHead, MovieHead, handler_type}
 use Rattle.mp4_present.specs.format.Presentation.{Sample, Track, Presentation}
-use Rattle.mp4_content.proofs.Plain.{plain_turned, reduce_by, type_same}
+use Rattle.mp4_content.proofs.Plain.{same_by, type_same}
 use Rattle.mp4_content.proofs.ReducedSamples.{left_many}
-use Rattle.mp4_content.specs.format.BitRates.{unrated_descriptions, unrated_payload}
-use Rattle.mp4_content.specs.format.Reduced.{sync_flag, plain_handler, plain_picture, plain_descriptions, is_at_end, first_offset, reduce_sample, reduce_from, reduce_samples, reduce_media, reduce_track_head, reduce_movie_head, number_head, number_track, number_tracks, reduce_track, reduce}
+use Rattle.mp4_content.specs.format.Reduced.{sync_flag, plain_handler, reduce_descriptions, is_at_end, first_offset, reduce_sample, reduce_from, reduce_samples, reduce_media, reduce_track_head, reduce_movie_head, number_head, number_track, number_tracks, reduce_track, reduce}
 use Rattle.mp4_content.specs.declared.without.Without.{Without}
 use Rattle.mp4_content.specs.format.Agreeing.{is_other, SamplesAgree, AllAgree, MediaAgree, TrackHeadsAgree, MovieHeadsAgree, TracksAgree, Agree, ReduceIsExact}
 use Rattle.mp4_boxes.proofs.Plain.{head_is, tail_is}
@@ -52,46 +51,14 @@ module _ {A : Type 0} (b c : Bool) (u p q x y : A) where
       by false true h k = k refl refl
       by false false h k = h refl refl
 
--- of sample descriptions, of which less is left by the types of the handlers
-module _ (h k : List ℕ) (x y : List Kept) where
-  pub type_of_left : (a : Bool) → (if a then plain_handler h else h) ≡ (if a then plain_handler k else k) → handler_type h ≡ handler_type k
-  type_of_left true e = sym (type_same h) ∙ ap handler_type e ∙ type_same k
-  type_of_left false e = ap handler_type e
+-- handlers of which the same is left name the same type
+pub type_of_left : (h k : List ℕ) (a : Bool) → (if a then plain_handler h else h) ≡ (if a then plain_handler k else k) → handler_type h ≡ handler_type k
+type_of_left h k true e = sym (type_same h) ∙ ap handler_type e ∙ type_same k
+type_of_left h k false e = ap handler_type e
 
-  module _ (kind : handler_type h ≡ handler_type k) where
-    pub plain_of : (u v : List Kept) → u ≡ v → plain_descriptions h u ≡ plain_descriptions k v
-    plain_of u v e = λ i. if bytes_eq (kind i) (codes "vide") then map plain_picture (e i) else e i
-
-    pub unrated_of : (u v : List Kept) → u ≡ v → unrated_descriptions h u ≡ unrated_descriptions k v
-    unrated_of u v e = λ i. map (λ (d : Kept). record d { payload = unrated_payload (kind i) d.payload }) (e i)
-
-    plain_from : (a b : Bool) → reduce_by a b h x ≡ reduce_by a b k y → b ≡ false → plain_descriptions h x ≡ plain_descriptions k y
-    plain_from a true e none = absurd cc
-    plain_from true false e none = e
-    plain_from false false e none = plain_of x y e
-
-    unrated_from : (a b : Bool) → reduce_by a b h x ≡ reduce_by a b k y → a ≡ false → unrated_descriptions h x ≡ unrated_descriptions k y
-    unrated_from true b e none = absurd cc
-    unrated_from false true e none = e
-    unrated_from false false e none = unrated_of x y e
-
-    left_from : (a b : Bool) → reduce_by a b h x ≡ reduce_by a b k y → plain_descriptions h (unrated_descriptions h x) ≡ plain_descriptions k (unrated_descriptions k y)
-    left_from true true e = e
-    left_from true false e = plain_turned h x ∙ unrated_of (plain_descriptions h x) (plain_descriptions k y) e ∙ sym (plain_turned k y)
-    left_from false true e = plain_of (unrated_descriptions h x) (unrated_descriptions k y) e
-    left_from false false e = plain_of (unrated_descriptions h x) (unrated_descriptions k y) (unrated_of x y e)
-
-  stay_from : (a b : Bool) → reduce_by a b h x ≡ reduce_by a b k y → a ≡ false → b ≡ false → x ≡ y
-  stay_from true b e named rated = absurd cc
-  stay_from false true e named rated = absurd cc
-  stay_from false false e named rated = e
-
-  same_left : (a b : Bool) → (a ≡ false → b ≡ false → x ≡ y) → (b ≡ false → plain_descriptions h x ≡ plain_descriptions k y) → (a ≡ false → unrated_descriptions h x ≡ unrated_descriptions k y)
-      → plain_descriptions h (unrated_descriptions h x) ≡ plain_descriptions k (unrated_descriptions k y) → reduce_by a b h x ≡ reduce_by a b k y
-  same_left true true all plain rates both = both
-  same_left true false all plain rates both = plain refl
-  same_left false true all plain rates both = rates refl
-  same_left false false all plain rates both = all refl refl
+-- the same is left of the same descriptions, where handlers name the same type
+pub same_descriptions : (l : Without) (h k : List ℕ) (x y : List Kept) → handler_type h ≡ handler_type k → x ≡ y → reduce_descriptions l h x ≡ reduce_descriptions l k y
+same_descriptions l h k x y kind e = same_by l.labels l.bitrates l.ids h k kind x ∙ ap (reduce_descriptions l k) e
 
 sync_to : (m n : ℕ) → sync_flag m ≡ sync_flag n → m / 2 ^ 16 % 2 ≡ n / 2 ^ 16 % 2
 sync_to m n e = omega (arith, e)
@@ -156,9 +123,6 @@ module _ (l : Without) where
       from_from (length xs) (first_offset xs) (first_offset ys) 0 xs ys h
       ∙ ap (λ count. reduce_from l count (first_offset ys) 0 ys) (agree_many (length xs) (first_offset xs) (first_offset ys) 0 xs ys h)
 
-  same_type : (a b : Media) → reduce_media l a ≡ reduce_media l b → handler_type a.handler ≡ handler_type b.handler
-  same_type a b e = type_of_left a.handler b.handler a.descriptions b.descriptions l.labels (ap (λ (x : Media). x.handler) e)
-
   media_to : (a b : Media) → reduce_media l a ≡ reduce_media l b → MediaAgree l a b
   media_to a b e = record {
     timescale = stays l.timing (λ n. 1000) a.timescale b.timescale (ap (λ (x : Media). x.timescale) e);
@@ -169,10 +133,7 @@ module _ (l : Without) where
     modification = stays l.times (λ n. 0) a.modification b.modification (ap (λ (x : Media). x.modification) e);
     handler = stays l.labels plain_handler a.handler b.handler (ap (λ (x : Media). x.handler) e);
     left_handler = less l.labels plain_handler a.handler b.handler (ap (λ (x : Media). x.handler) e);
-    descriptions = stay_from a.handler b.handler a.descriptions b.descriptions l.labels l.bitrates (ap (λ (x : Media). x.descriptions) e);
-    plain = plain_from a.handler b.handler a.descriptions b.descriptions (same_type a b e) l.labels l.bitrates (ap (λ (x : Media). x.descriptions) e);
-    unrated = unrated_from a.handler b.handler a.descriptions b.descriptions (same_type a b e) l.labels l.bitrates (ap (λ (x : Media). x.descriptions) e);
-    left_descriptions = left_from a.handler b.handler a.descriptions b.descriptions (same_type a b e) l.labels l.bitrates (ap (λ (x : Media). x.descriptions) e);
+    descriptions = ap (λ (x : Media). x.descriptions) e;
   }
 
   media_from : (a b : Media) → MediaAgree l a b → reduce_media l a ≡ reduce_media l b
@@ -184,7 +145,7 @@ module _ (l : Without) where
     creation = same_less l.times (λ n. 0) a.creation b.creation h.creation refl i;
     modification = same_less l.times (λ n. 0) a.modification b.modification h.modification refl i;
     handler = same_less l.labels plain_handler a.handler b.handler h.handler h.left_handler i;
-    descriptions = same_left a.handler b.handler a.descriptions b.descriptions l.labels l.bitrates h.descriptions h.plain h.unrated h.left_descriptions i;
+    descriptions = h.descriptions i;
   }
 
   track_head_to : (place : ℕ) (a b : TrackHead) → number_head l place (reduce_track_head l a) ≡ number_head l place (reduce_track_head l b) → TrackHeadsAgree l a b

@@ -1,6 +1,6 @@
 -- Boxes that were written are read again, and what is left of them once more is the same.
 use Rattle.std.proofs.Common.{◌≡◌, ℕ, zero, suc, ◌+◌, ◌-◌, ◌<◌, ◌≤◌, ◌^◌, Bool, true, false, if◌then◌else◌, List, [], ◌∷◌, ◌++◌, length, take, drop, refl, sym, ap, subst, ◌∙◌, arith, append_assoc, length-append, length-drop}
-use Rattle.std.specs.Prelude.{not, map, filter, flat_map, codes, bytes_eq}
+use Rattle.std.specs.Prelude.{◌&&◌, ◌||◌, not, map, filter, flat_map, codes, bytes_eq}
 use Rattle.std.specs.List.{AllByRecursion}
 use Rattle.std.proofs.lemmas.List.{drop_at, length-take-le}
 use Rattle.std.specs.Int.{byte_at}
@@ -13,8 +13,8 @@ use Rattle.mp4_boxes.proofs.OfBytes.{bytes_dropped, bytes_taken, no_bytes}
 use Rattle.mp4_boxes.proofs.WrittenBoxes.{length-box_bytes}
 use Rattle.mp4_head.specs.format.Head.{Kept}
 use Rattle.mp4_head.specs.format.Writing.{kept_bytes}
-use Rattle.mp4_content.specs.format.BitRates.{begins_box, first_box, leading_boxes, behind_boxes, boxes_of, end_of, left_of_boxes, tiles_left, are_zeros}
-use Rattle.mp4_content.proofs.FirstBoxes.{begins, begun, is_left, left_bytes, rest_shorter, too_short, boxes_stop, end_stop}
+use Rattle.mp4_content.specs.format.BitRates.{begins_box, first_box, leading_boxes, behind_boxes, boxes_of, end_of, is_left, left_of_boxes, tiles_left, are_zeros}
+use Rattle.mp4_content.proofs.FirstBoxes.{begins, begun, left_bytes, rest_shorter, too_short, boxes_stop, end_stop}
 
 take_at : (xs ys : List ℕ) (n : ℕ) → length xs ≡ n → take n (xs ++ ys) ≡ xs
 take_at [] ys zero e = refl
@@ -174,45 +174,31 @@ no_box_behind (suc n) bytes le =
 
 -- ---- what is left of them
 
--- a change of boxes that keeps their types, makes them no longer, and once more changes nothing
+-- a change of boxes that keeps their types, and makes them no longer
 pub record IsLasting (change : Kept → Kept) : Type 0 where
   pub kind : (k : Kept) → (change k).kind ≡ k.kind
   pub shorter : (k : Kept) → length (change k).payload ≤ length k.payload
-  pub twice : (k : Kept) → change (change k) ≡ change k
   pub bytes : (k : Kept) → AreBytes k.payload → AreBytes (change k).payload
 
-module _ (change : Kept → Kept) (lasting : IsLasting change) where
+module _ (rates : Bool) (change : Kept → Kept) (lasting : IsLasting change) where
   changed_short : (k : Kept) → IsShortBox k → IsShortBox (change k)
   changed_short k h = record {
     kind = ap (λ bs. length bs) (lasting.kind k) ∙ h.kind;
     size = let less = lasting.shorter k in let size = h.size in omega (arith, less, size);
   }
 
-  same_left : (k : Kept) → is_left (change k) ≡ is_left k
-  same_left k = ap (λ (kind : List ℕ). not (bytes_eq kind (codes "btrt"))) (lasting.kind k)
+  left_short : (ks : List Kept) → AllByRecursion IsShortBox ks → AllByRecursion IsShortBox (left_of_boxes rates change ks)
+  left_short ks h = each_value IsShortBox IsShortBox change changed_short (filter (is_left rates) ks)
+      (each_weaker (λ k. IsShortBox k × (is_left rates k ≡ true)) IsShortBox (λ k both. both.0) (filter (is_left rates) ks) (each_kept IsShortBox (is_left rates) ks h))
 
-  left_at : (v : Bool) (k : Kept) (ks : List Kept) → is_left k ≡ v → left_of_boxes change (map change (filter is_left ks)) ≡ map change (filter is_left ks)
-      → left_of_boxes change (map change (if v then k ∷ filter is_left ks else filter is_left ks)) ≡ map change (if v then k ∷ filter is_left ks else filter is_left ks)
-  left_at true k ks e h =
-      let stays : is_left (change k) ≡ true = same_left k ∙ e in
-      ap (λ (b : Bool). map change (if b then change k ∷ filter is_left (map change (filter is_left ks)) else filter is_left (map change (filter is_left ks)))) stays
-      ∙ (λ i. lasting.twice k i ∷ h i)
-  left_at false k ks e h = h
-
-  left_twice : (ks : List Kept) → left_of_boxes change (left_of_boxes change ks) ≡ left_of_boxes change ks
-  left_twice [] = refl
-  left_twice (k ∷ ks) = left_at (is_left k) k ks refl (left_twice ks)
-
-  left_short : (ks : List Kept) → AllByRecursion IsShortBox ks → AllByRecursion IsShortBox (left_of_boxes change ks)
-  left_short ks h = each_value IsShortBox IsShortBox change changed_short (filter is_left ks)
-      (each_weaker (λ k. IsShortBox k × (is_left k ≡ true)) IsShortBox (λ k both. both.0) (filter is_left ks) (each_kept IsShortBox is_left ks h))
-
-  pub tiles_twice : (zeros : ℕ) (bytes : List ℕ) → tiles_left change zeros (tiles_left change zeros bytes) ≡ tiles_left change zeros bytes
-  tiles_twice zeros bytes = by (are_zeros zeros (end_of bytes)) refl
+  -- boxes that were written, of which something else is left
+  pub tiles_next : (other : Bool) (next all : Kept → Kept) (most : Bool) → ((ks : List Kept) → left_of_boxes other next (left_of_boxes rates change ks) ≡ left_of_boxes most all ks)
+      → (zeros : ℕ) (bytes : List ℕ) → tiles_left other next zeros (tiles_left rates change zeros bytes) ≡ tiles_left most all zeros bytes
+  tiles_next other next all most joined zeros bytes = by (are_zeros zeros (end_of bytes)) refl
     where
-      by : (v : Bool) → are_zeros zeros (end_of bytes) ≡ v → tiles_left change zeros (if v then left_bytes change bytes ++ end_of bytes else bytes) ≡ (if v then left_bytes change bytes ++ end_of bytes else bytes)
+      by : (v : Bool) → are_zeros zeros (end_of bytes) ≡ v → tiles_left other next zeros (if v then left_bytes rates change bytes ++ end_of bytes else bytes) ≡ (if v then left_bytes most all bytes ++ end_of bytes else bytes)
       by true e =
-          let ks = left_of_boxes change (boxes_of bytes) in
+          let ks = left_of_boxes rates change (boxes_of bytes) in
           let tail = end_of bytes in
           let once = flat_map kept_bytes ks ++ tail in
           let short = left_short (boxes_of bytes) (boxes_are_short (length bytes) bytes) in
@@ -221,16 +207,16 @@ module _ (change : Kept → Kept) (lasting : IsLasting change) where
           let boxes : boxes_of once ≡ ks = boxes_again (length once) ks tail short none few in
           let ends : end_of once ≡ tail = end_again (length once) ks tail short none few in
           let tile : are_zeros zeros (end_of once) ≡ true = ap (are_zeros zeros) ends ∙ e in
-          ap (λ (b : Bool). if b then left_bytes change once ++ end_of once else once) tile
-          ∙ (λ i. flat_map kept_bytes (left_of_boxes change (boxes i)) ++ ends i)
-          ∙ ap (λ xs. flat_map kept_bytes xs ++ tail) (left_twice (boxes_of bytes))
-      by false e = ap (λ (b : Bool). if b then left_bytes change bytes ++ end_of bytes else bytes) e
+          ap (λ (b : Bool). if b then left_bytes other next once ++ end_of once else once) tile
+          ∙ (λ i. flat_map kept_bytes (left_of_boxes other next (boxes i)) ++ ends i)
+          ∙ ap (λ xs. flat_map kept_bytes xs ++ tail) (joined (boxes_of bytes))
+      by false e = ap (λ (b : Bool). if b then left_bytes other next bytes ++ end_of bytes else bytes) e
 
   -- ---- bytes
 
-  pub tiles_bytes : (zeros : ℕ) (bytes : List ℕ) → AreBytes bytes → AreBytes (tiles_left change zeros bytes)
-  tiles_bytes zeros bytes are = chosen AreBytes (are_zeros zeros (end_of bytes)) (left_bytes change bytes ++ end_of bytes) bytes
-      (λ e. bytes_joined (left_bytes change bytes) (end_of bytes) (all_bytes (boxes_of bytes) (boxes_bytes (length bytes) bytes are)) (end_bytes (length bytes) bytes are)) are
+  pub tiles_bytes : (zeros : ℕ) (bytes : List ℕ) → AreBytes bytes → AreBytes (tiles_left rates change zeros bytes)
+  tiles_bytes zeros bytes are = chosen AreBytes (are_zeros zeros (end_of bytes)) (left_bytes rates change bytes ++ end_of bytes) bytes
+      (λ e. bytes_joined (left_bytes rates change bytes) (end_of bytes) (all_bytes (boxes_of bytes) (boxes_bytes (length bytes) bytes are)) (end_bytes (length bytes) bytes are)) are
     where
       kept_are : (k : Kept) → AreBytes k.kind × AreBytes k.payload → AreBytes (kept_bytes (change k))
       kept_are k h = bytes_joined (big_bytes 4 (8 + length (change k).payload)) ((change k).kind ++ (change k).payload) (number_bytes 4 (8 + length (change k).payload))
@@ -240,8 +226,9 @@ module _ (change : Kept → Kept) (lasting : IsLasting change) where
       changed_bytes [] h = no_bytes
       changed_bytes (k ∷ ks) h = bytes_joined (kept_bytes (change k)) (flat_map kept_bytes (map change ks)) (kept_are k h.0) (changed_bytes ks h.1)
 
-      all_bytes : (ks : List Kept) → AllByRecursion (λ k. AreBytes k.kind × AreBytes k.payload) ks → AreBytes (flat_map kept_bytes (left_of_boxes change ks))
-      all_bytes ks h = changed_bytes (filter is_left ks) (each_weaker (λ k. (AreBytes k.kind × AreBytes k.payload) × (is_left k ≡ true)) (λ k. AreBytes k.kind × AreBytes k.payload) (λ k both. both.0) (filter is_left ks) (each_kept (λ k. AreBytes k.kind × AreBytes k.payload) is_left ks h))
+      all_bytes : (ks : List Kept) → AllByRecursion (λ k. AreBytes k.kind × AreBytes k.payload) ks → AreBytes (flat_map kept_bytes (left_of_boxes rates change ks))
+      all_bytes ks h = changed_bytes (filter (is_left rates) ks) (each_weaker (λ k. (AreBytes k.kind × AreBytes k.payload) × (is_left rates k ≡ true)) (λ k. AreBytes k.kind × AreBytes k.payload) (λ k both. both.0) (filter (is_left rates) ks)
+          (each_kept (λ k. AreBytes k.kind × AreBytes k.payload) (is_left rates) ks h))
 
       boxes_bytes : (n : ℕ) (bytes : List ℕ) → AreBytes bytes → AllByRecursion (λ k. AreBytes k.kind × AreBytes k.payload) (leading_boxes n bytes)
       boxes_bytes zero bytes are = tt
@@ -251,3 +238,39 @@ module _ (change : Kept → Kept) (lasting : IsLasting change) where
       end_bytes : (n : ℕ) (bytes : List ℕ) → AreBytes bytes → AreBytes (behind_boxes n bytes)
       end_bytes zero bytes are = are
       end_bytes (suc n) bytes are = chosen AreBytes (begins_box bytes) (behind_boxes n (drop (field bytes 0 4) bytes)) bytes (λ e. end_bytes n (drop (field bytes 0 4) bytes) (bytes_dropped (field bytes 0 4) bytes are)) are
+
+-- ---- two changes, one after the other
+
+stay_or : (a b w : Bool) → (not (b && w) ≡ true → not (a && w) ≡ not ((a || b) && w)) × (not (b && w) ≡ false → not ((a || b) && w) ≡ false)
+stay_or true true true = (λ e. refl, λ e. refl)
+stay_or true true false = (λ e. refl, λ e. e)
+stay_or true false true = (λ e. refl, λ e. refl)
+stay_or true false false = (λ e. refl, λ e. e)
+stay_or false true true = (λ e. sym e, λ e. refl)
+stay_or false true false = (λ e. refl, λ e. e)
+stay_or false false true = (λ e. refl, λ e. e)
+stay_or false false false = (λ e. refl, λ e. e)
+
+abbrev left_first : Bool → Kept → List Kept → List Kept
+left_first v k ks = if v then k ∷ ks else ks
+
+module _ (a b : Bool) (f g h : Kept → Kept) (kind : (k : Kept) → (g k).kind ≡ k.kind) (joined : (k : Kept) → f (g k) ≡ h k) where
+  -- where the first one stays
+  one_joined : (v : Bool) (k : Kept) (xs ys : List Kept) → is_left a (g k) ≡ v → map f xs ≡ map h ys → map f (left_first (is_left a (g k)) (g k) xs) ≡ map h (left_first v k ys)
+  one_joined true k xs ys e more = ap (λ (v : Bool). map f (left_first v (g k) xs)) e ∙ (λ i. joined k i ∷ more i)
+  one_joined false k xs ys e more = ap (λ (v : Bool). map f (left_first v (g k) xs)) e ∙ more
+
+  joined_at : (v : Bool) (k : Kept) (ks : List Kept) → is_left b k ≡ v → left_of_boxes a f (left_of_boxes b g ks) ≡ left_of_boxes (a || b) h ks
+      → left_of_boxes a f (map g (left_first v k (filter (is_left b) ks))) ≡ map h (left_first (is_left (a || b) k) k (filter (is_left (a || b)) ks))
+  joined_at true k ks e more =
+      let same : is_left a (g k) ≡ is_left (a || b) k = ap (λ (bs : List ℕ). not (a && bytes_eq bs (codes "btrt"))) (kind k) ∙ (stay_or a b (bytes_eq k.kind (codes "btrt"))).0 e in
+      one_joined (is_left (a || b) k) k (filter (is_left a) (left_of_boxes b g ks)) (filter (is_left (a || b)) ks) same more
+  joined_at false k ks e more =
+      more ∙ sym (ap (λ (v : Bool). map h (left_first v k (filter (is_left (a || b)) ks))) ((stay_or a b (bytes_eq k.kind (codes "btrt"))).1 e))
+
+  pub boxes_joined : (ks : List Kept) → left_of_boxes a f (left_of_boxes b g ks) ≡ left_of_boxes (a || b) h ks
+  boxes_joined [] = refl
+  boxes_joined (k ∷ ks) = joined_at (is_left b k) k ks refl (boxes_joined ks)
+
+pub tiles_joined : (a b : Bool) (f g h : Kept → Kept) → IsLasting g → ((k : Kept) → f (g k) ≡ h k) → (zeros : ℕ) (bytes : List ℕ) → tiles_left a f zeros (tiles_left b g zeros bytes) ≡ tiles_left (a || b) h zeros bytes
+tiles_joined a b f g h lasting joined zeros bytes = tiles_next b g lasting a f h (a || b) (boxes_joined a b f g h lasting.kind joined) zeros bytes

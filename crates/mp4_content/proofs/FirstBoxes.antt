@@ -1,6 +1,6 @@
 -- Boxes from the front of bytes on, one after the other, and what is left of them.
 use Rattle.std.proofs.Common.{◌≡◌, ℕ, zero, suc, ◌+◌, ◌-◌, ◌<◌, ◌≤◌, ◌^◌, Bool, true, false, if◌then◌else◌, List, [], ◌∷◌, ◌++◌, length, take, drop, refl, sym, ap, ◌∙◌, arith, append_assoc, length-append, length-drop}
-use Rattle.std.specs.Prelude.{Result, Ok, Err, IfOk, ◌&&◌, nat_le, nat_lt, not, map, filter, flat_map, codes, bytes_eq}
+use Rattle.std.specs.Prelude.{Result, Ok, Err, IfOk, ◌&&◌, nat_le, nat_lt, map, filter, flat_map}
 use Rattle.std.proofs.lemmas.Bool.{le-leb, leb-true, lt-ltb, ltb-true}
 use Rattle.mp4_boxes.specs.format.Bytes.{field}
 use Rattle.std.proofs.lemmas.List.{length-take-le}
@@ -8,7 +8,7 @@ use Rattle.mp4_boxes.proofs.WrittenBoxes.{length-box_bytes}
 use Rattle.mp4_boxes.proofs.Plain.{not_true_is}
 use Rattle.mp4_head.specs.format.Head.{Kept}
 use Rattle.mp4_head.specs.format.Writing.{kept_bytes}
-use Rattle.mp4_content.specs.format.BitRates.{begins_box, first_box, leading_boxes, behind_boxes, boxes_of, end_of, left_of_boxes, tiles_left, are_zeros}
+use Rattle.mp4_content.specs.format.BitRates.{begins_box, first_box, leading_boxes, behind_boxes, boxes_of, end_of, is_left, left_of_boxes, tiles_left, are_zeros}
 
 pub three : (a b c : Bool) → (a && b && c) ≡ true → (a ≡ true) × (b ≡ true) × (c ≡ true)
 three true true true e = (refl, refl, refl)
@@ -99,58 +99,55 @@ end_stop (suc n) bytes e = rw e refl
 -- ---- what is left of them
 
 -- the bytes of what is left of all boxes
-abbrev pub left_bytes : (Kept → Kept) → List ℕ → List ℕ
-left_bytes change bytes = flat_map kept_bytes (left_of_boxes change (boxes_of bytes))
+abbrev pub left_bytes : Bool → (Kept → Kept) → List ℕ → List ℕ
+left_bytes rates change bytes = flat_map kept_bytes (left_of_boxes rates change (boxes_of bytes))
 
 -- those of some boxes, so far, with what is to come
-pub record IsLeftSoFar (change : Kept → Kept) (bytes left rest : List ℕ) : Type 0 where
-  pub bytes_left : left ++ left_bytes change rest ≡ left_bytes change bytes
+pub record IsLeftSoFar (rates : Bool) (change : Kept → Kept) (bytes left rest : List ℕ) : Type 0 where
+  pub bytes_left : left ++ left_bytes rates change rest ≡ left_bytes rates change bytes
   pub ends : end_of rest ≡ end_of bytes
 
-pub so_far_none : (change : Kept → Kept) (bytes : List ℕ) → IsLeftSoFar change bytes [] bytes
-so_far_none change bytes = record { bytes_left = refl; ends = refl }
+pub so_far_none : (rates : Bool) (change : Kept → Kept) (bytes : List ℕ) → IsLeftSoFar rates change bytes [] bytes
+so_far_none rates change bytes = record { bytes_left = refl; ends = refl }
 
 pub one_more_by : (v : Bool) (change : Kept → Kept) (k : Kept) (ks : List Kept) → flat_map kept_bytes (map change (if v then k ∷ ks else ks)) ≡ flat_map kept_bytes (map change (if v then k ∷ [] else [])) ++ flat_map kept_bytes (map change ks)
 one_more_by true change k ks = ap (λ (bs : List ℕ). bs ++ flat_map kept_bytes (map change ks)) (sym (nothing_more (kept_bytes (change k))))
 one_more_by false change k ks = refl
 
-abbrev pub is_left : Kept → Bool
-is_left k = not (bytes_eq k.kind (codes "btrt"))
+one_more : (rates : Bool) (change : Kept → Kept) (k : Kept) (ks : List Kept) → flat_map kept_bytes (left_of_boxes rates change (k ∷ ks)) ≡ flat_map kept_bytes (left_of_boxes rates change (k ∷ [])) ++ flat_map kept_bytes (left_of_boxes rates change ks)
+one_more rates change k ks = one_more_by (is_left rates k) change k (filter (is_left rates) ks)
 
-one_more : (change : Kept → Kept) (k : Kept) (ks : List Kept) → flat_map kept_bytes (left_of_boxes change (k ∷ ks)) ≡ flat_map kept_bytes (left_of_boxes change (k ∷ [])) ++ flat_map kept_bytes (left_of_boxes change ks)
-one_more change k ks = one_more_by (is_left k) change k (filter is_left ks)
-
-pub so_far_more : (change : Kept → Kept) (bytes left rest new next : List ℕ) (k : Kept) → IsLeftSoFar change bytes left rest → begins_box rest ≡ true → k ≡ first_box rest → next ≡ drop (field rest 0 4) rest
-    → new ≡ left ++ flat_map kept_bytes (left_of_boxes change (k ∷ [])) → IsLeftSoFar change bytes new next
-so_far_more change bytes left rest new next k h e is behind put =
-    let first = flat_map kept_bytes (left_of_boxes change (first_box rest ∷ [])) in
+pub so_far_more : (rates : Bool) (change : Kept → Kept) (bytes left rest new next : List ℕ) (k : Kept) → IsLeftSoFar rates change bytes left rest → begins_box rest ≡ true → k ≡ first_box rest → next ≡ drop (field rest 0 4) rest
+    → new ≡ left ++ flat_map kept_bytes (left_of_boxes rates change (k ∷ [])) → IsLeftSoFar rates change bytes new next
+so_far_more rates change bytes left rest new next k h e is behind put =
+    let first = flat_map kept_bytes (left_of_boxes rates change (first_box rest ∷ [])) in
     let dropped = drop (field rest 0 4) rest in
-    let split : left_bytes change rest ≡ first ++ left_bytes change dropped =
-    ap (λ (ks : List Kept). flat_map kept_bytes (left_of_boxes change ks)) (boxes_begin rest e) ∙ one_more change (first_box rest) (boxes_of dropped) in
-    let now : new ≡ left ++ first = put ∙ ap (λ (x : Kept). left ++ flat_map kept_bytes (left_of_boxes change (x ∷ []))) is in
+    let split : left_bytes rates change rest ≡ first ++ left_bytes rates change dropped =
+    ap (λ (ks : List Kept). flat_map kept_bytes (left_of_boxes rates change ks)) (boxes_begin rest e) ∙ one_more rates change (first_box rest) (boxes_of dropped) in
+    let now : new ≡ left ++ first = put ∙ ap (λ (x : Kept). left ++ flat_map kept_bytes (left_of_boxes rates change (x ∷ []))) is in
     record {
-      bytes_left = (λ i. now i ++ left_bytes change (behind i)) ∙ append_assoc left first (left_bytes change dropped) ∙ ap (λ bs. left ++ bs) (sym split) ∙ h.bytes_left;
+      bytes_left = (λ i. now i ++ left_bytes rates change (behind i)) ∙ append_assoc left first (left_bytes rates change dropped) ∙ ap (λ bs. left ++ bs) (sym split) ∙ h.bytes_left;
       ends = ap end_of behind ∙ sym (end_begin rest e) ∙ h.ends;
     }
 
 -- where no box follows, all are there
-pub so_far_all : (change : Kept → Kept) (bytes left rest : List ℕ) → IsLeftSoFar change bytes left rest → begins_box rest ≡ false → (left ≡ left_bytes change bytes) × (rest ≡ end_of bytes)
-so_far_all change bytes left rest h e =
-    let none : left_bytes change rest ≡ [] = ap (λ (ks : List Kept). flat_map kept_bytes (left_of_boxes change ks)) (boxes_stop (length rest) rest e) in
+pub so_far_all : (rates : Bool) (change : Kept → Kept) (bytes left rest : List ℕ) → IsLeftSoFar rates change bytes left rest → begins_box rest ≡ false → (left ≡ left_bytes rates change bytes) × (rest ≡ end_of bytes)
+so_far_all rates change bytes left rest h e =
+    let none : left_bytes rates change rest ≡ [] = ap (λ (ks : List Kept). flat_map kept_bytes (left_of_boxes rates change ks)) (boxes_stop (length rest) rest e) in
     (sym (nothing_more left) ∙ ap (λ bs. left ++ bs) (sym none) ∙ h.bytes_left, sym (end_stop (length rest) rest e) ∙ h.ends)
 
 -- the whole, where the boxes tile the bytes up to zeros, and where they don't
-pub whole_left : (change : Kept → Kept) (zeros : ℕ) (bytes left rest new : List ℕ) → IsLeftSoFar change bytes left rest → begins_box rest ≡ false → are_zeros zeros rest ≡ true → new ≡ left ++ rest → new ≡ tiles_left change zeros bytes
-whole_left change zeros bytes left rest new h e z put =
-    let all = so_far_all change bytes left rest h e in
+pub whole_left : (rates : Bool) (change : Kept → Kept) (zeros : ℕ) (bytes left rest new : List ℕ) → IsLeftSoFar rates change bytes left rest → begins_box rest ≡ false → are_zeros zeros rest ≡ true → new ≡ left ++ rest → new ≡ tiles_left rates change zeros bytes
+whole_left rates change zeros bytes left rest new h e z put =
+    let all = so_far_all rates change bytes left rest h e in
     let tile : are_zeros zeros (end_of bytes) ≡ true = ap (are_zeros zeros) (sym all.1) ∙ z in
-    put ∙ (λ i. all.0 i ++ all.1 i) ∙ sym (ap (λ (v : Bool). if v then left_bytes change bytes ++ end_of bytes else bytes) tile)
+    put ∙ (λ i. all.0 i ++ all.1 i) ∙ sym (ap (λ (v : Bool). if v then left_bytes rates change bytes ++ end_of bytes else bytes) tile)
 
-pub whole_stays : (change : Kept → Kept) (zeros : ℕ) (bytes left rest new : List ℕ) → IsLeftSoFar change bytes left rest → begins_box rest ≡ false → are_zeros zeros rest ≡ false → new ≡ bytes → new ≡ tiles_left change zeros bytes
-whole_stays change zeros bytes left rest new h e z same =
-    let all = so_far_all change bytes left rest h e in
+pub whole_stays : (rates : Bool) (change : Kept → Kept) (zeros : ℕ) (bytes left rest new : List ℕ) → IsLeftSoFar rates change bytes left rest → begins_box rest ≡ false → are_zeros zeros rest ≡ false → new ≡ bytes → new ≡ tiles_left rates change zeros bytes
+whole_stays rates change zeros bytes left rest new h e z same =
+    let all = so_far_all rates change bytes left rest h e in
     let tile : are_zeros zeros (end_of bytes) ≡ false = ap (are_zeros zeros) (sym all.1) ∙ z in
-    same ∙ sym (ap (λ (v : Bool). if v then left_bytes change bytes ++ end_of bytes else bytes) tile)
+    same ∙ sym (ap (λ (v : Bool). if v then left_bytes rates change bytes ++ end_of bytes else bytes) tile)
 
 -- whether the size that is read is that of a box
 pub small_size : (bytes : List ℕ) → field bytes 0 4 < 8 → begins_box bytes ≡ false
@@ -183,24 +180,24 @@ one_short : (v : Bool) (change : Kept → Kept) → MakesNoLonger change → (k 
 one_short true change short k ks = let less = short k in omega (arith, less, length-append (kept_bytes (change k)) (flat_map kept_bytes (map change ks)))
 one_short false change short k ks = omega arith
 
-boxes_short : (change : Kept → Kept) → MakesNoLonger change → (n : ℕ) (bytes : List ℕ) → length (flat_map kept_bytes (left_of_boxes change (leading_boxes n bytes))) + length (behind_boxes n bytes) ≤ length bytes
-boxes_short change short zero bytes = omega arith
-boxes_short change short (suc n) bytes = by (begins_box bytes) refl (boxes_short change short n (drop (field bytes 0 4) bytes))
+boxes_short : (rates : Bool) (change : Kept → Kept) → MakesNoLonger change → (n : ℕ) (bytes : List ℕ) → length (flat_map kept_bytes (left_of_boxes rates change (leading_boxes n bytes))) + length (behind_boxes n bytes) ≤ length bytes
+boxes_short rates change short zero bytes = omega arith
+boxes_short rates change short (suc n) bytes = by (begins_box bytes) refl (boxes_short rates change short n (drop (field bytes 0 4) bytes))
   where
-    by : (v : Bool) → begins_box bytes ≡ v → length (flat_map kept_bytes (left_of_boxes change (leading_boxes n (drop (field bytes 0 4) bytes)))) + length (behind_boxes n (drop (field bytes 0 4) bytes)) ≤ length (drop (field bytes 0 4) bytes)
-        → length (flat_map kept_bytes (left_of_boxes change (leading_boxes (suc n) bytes))) + length (behind_boxes (suc n) bytes) ≤ length bytes
+    by : (v : Bool) → begins_box bytes ≡ v → length (flat_map kept_bytes (left_of_boxes rates change (leading_boxes n (drop (field bytes 0 4) bytes)))) + length (behind_boxes n (drop (field bytes 0 4) bytes)) ≤ length (drop (field bytes 0 4) bytes)
+        → length (flat_map kept_bytes (left_of_boxes rates change (leading_boxes (suc n) bytes))) + length (behind_boxes (suc n) bytes) ≤ length bytes
     by true e h = rw e (
-        let one = one_short (is_left (first_box bytes)) change short (first_box bytes) (filter is_left (leading_boxes n (drop (field bytes 0 4) bytes))) in
+        let one = one_short (is_left rates (first_box bytes)) change short (first_box bytes) (filter (is_left rates) (leading_boxes n (drop (field bytes 0 4) bytes))) in
         let long = first_long bytes e in
         let within = (begun bytes e).1 in
         omega (arith, h, one, long, within, length-drop (field bytes 0 4) bytes))
     by false e h = rw e (omega arith)
 
-pub tiles_short : (change : Kept → Kept) → MakesNoLonger change → (zeros : ℕ) (bytes : List ℕ) → length (tiles_left change zeros bytes) ≤ length bytes
-tiles_short change short zeros bytes = by (are_zeros zeros (end_of bytes))
+pub tiles_short : (rates : Bool) (change : Kept → Kept) → MakesNoLonger change → (zeros : ℕ) (bytes : List ℕ) → length (tiles_left rates change zeros bytes) ≤ length bytes
+tiles_short rates change short zeros bytes = by (are_zeros zeros (end_of bytes))
   where
-    by : (v : Bool) → length (if v then left_bytes change bytes ++ end_of bytes else bytes) ≤ length bytes
-    by true = let few = boxes_short change short (length bytes) bytes in omega (arith, few, length-append (left_bytes change bytes) (end_of bytes))
+    by : (v : Bool) → length (if v then left_bytes rates change bytes ++ end_of bytes else bytes) ≤ length bytes
+    by true = let few = boxes_short rates change short (length bytes) bytes in omega (arith, few, length-append (left_bytes rates change bytes) (end_of bytes))
     by false = omega arith
 
 -- a clause at Ok follows from another

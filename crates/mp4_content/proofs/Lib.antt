@@ -80,6 +80,8 @@ pub mod FilesCompared
 pub mod HeadLess
 pub mod LeftTimes
 pub mod TimedSamples
+pub mod OwnSubjects
+pub mod TimesTaken
 pub mod ReducedTaken
 pub mod Measured
 pub mod SamplesTaken

@@ -1,10 +1,10 @@
 -- What is left of payloads of heads, in memory of its own: one entry after the other.
 use Rattle.std.proofs.Common.{◌≡◌, ℕ, suc, ◌+◌, ◌≤◌, Bool, true, false, if◌then◌else◌, List, [], ◌∷◌, ◌++◌, length, take, map, Some, refl, sym, ap, subst, ◌∙◌, arith}
-use Rattle.std.specs.Prelude.{◌&&◌, slice_get}
+use Rattle.std.specs.Prelude.{◌&&◌, ◌||◌, slice_get}
 use Rattle.std.specs.List.{AllZip}
 use Rattle.std.proofs.lemmas.List.{map-append, take_all}
 use Rattle.mp4_head.specs.format.Head.{Kept, TrackHead}
-use Rattle.mp4_content.specs.format.BitRates.{unrated}
+use Rattle.mp4_content.specs.format.BitRates.{entry_left}
 use Rattle.mp4_content.specs.format.Reduced.{is_picture, plain_picture, reduce_descriptions}
 use Rattle.mp4_content.specs.words.PayloadsLeft.{description_left, leaves_payloads, track_payloads_left}
 use Rattle.mp4_content.specs.declared.without.Without.{Without}
@@ -25,8 +25,8 @@ map_both f g [] = refl
 map_both f g (x ∷ xs) = ap (λ ys. f (g x) ∷ ys) (map_both f g xs)
 
 -- all of them
-left_by : (labels picture rates : Bool) (f g : Kept → Kept) (entries : List Kept) → map (λ k. if labels && picture then f (if rates then g k else k) else (if rates then g k else k)) entries
-    ≡ (if labels then (if picture then map f (if rates then map g entries else entries) else (if rates then map g entries else entries)) else (if rates then map g entries else entries))
+left_by : (labels picture others : Bool) (f g : Kept → Kept) (entries : List Kept) → map (λ k. if labels && picture then f (if others then g k else k) else (if others then g k else k)) entries
+    ≡ (if labels then (if picture then map f (if others then map g entries else entries) else (if others then map g entries else entries)) else (if others then map g entries else entries))
 left_by true true true f g entries = map_both f g entries
 left_by true true false f g entries = refl
 left_by true false true f g entries = refl
@@ -35,7 +35,7 @@ left_by false picture true f g entries = refl
 left_by false picture false f g entries = map_same (λ k. k) (λ k. refl) entries
 
 pub entries_left : (l : Without) (handler : List ℕ) (entries : List Kept) → map (description_left l handler) entries ≡ reduce_descriptions l handler entries
-entries_left l handler entries = left_by l.labels (is_picture handler) l.bitrates plain_picture (unrated handler) entries
+entries_left l handler entries = left_by l.labels (is_picture handler) (l.bitrates || l.ids) plain_picture (entry_left l.bitrates l.ids handler) entries
 
 -- ---- two lists, one entry after the other
 
@@ -54,4 +54,7 @@ changed_to_same seen f same xs = sym (map_same f same (map seen xs))
 
 -- where payloads stay, all does
 pub payloads_stay : (l : Without) → leaves_payloads l ≡ false → (t : TrackHead) → track_payloads_left l t ≡ t
-payloads_stay l e t = let h = or_is_false l.labels l.bitrates e in rw (h.0, h.1) refl
+payloads_stay l e t =
+    let h = or_is_false (l.labels || l.bitrates) l.ids e in
+    let k = or_is_false l.labels l.bitrates h.0 in
+    rw (k.0, k.1, h.1) refl

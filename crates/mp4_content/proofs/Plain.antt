@@ -1,4 +1,4 @@
--- What is left of payloads without labels: once more it is the same, no longer, and well formed.
+-- What is left of payloads without labels, bit rates and IDs: twice is once by all words, no longer, and well formed.
 use Rattle.std.proofs.Common.{◌≡◌, ℕ, zero, suc, ◌≤◌, Bool, true, false, if◌then◌else◌, List, [], ◌∷◌, length, take, refl, sym, ap, ◌∙◌, arith, length-append}
 use Rattle.std.specs.Prelude.{◌||◌, nat_le, map, codes, bytes_eq}
 use Rattle.std.specs.List.{AllByRecursion, flat_map}
@@ -10,12 +10,12 @@ use Rattle.mp4_boxes.proofs.Plain.{length_mapped}
 use Rattle.mp4_head.specs.format.Head.{Kept, IsDescription, handler_type}
 use Rattle.mp4_head.specs.format.Writing.{kept_bytes}
 use Rattle.mp4_content.specs.declared.without.Without.{Without}
-use Rattle.mp4_content.specs.format.BitRates.{unrated, unrated_descriptions, unrated_payload}
+use Rattle.mp4_content.specs.format.BitRates.{entries_left, entry_left, payload_left}
 use Rattle.mp4_content.specs.format.Reduced.{reduce_descriptions, plain_handler, plain_picture, plain_descriptions, is_picture}
 use Rattle.mp4_content.specs.format.Zeros.{zeroed}
 use Rattle.mp4_content.proofs.Zeroed.{zeroed_length}
 use Rattle.mp4_content.specs.format.ReducedLaws.{both}
-use Rattle.mp4_content.proofs.Unrated.{names_and_rates, unrated_good, unrated_short, unrated_twice}
+use Rattle.mp4_content.proofs.Unrated.{entry_good, entry_joined, names_and_rates, payload_short}
 use Rattle.mp4_content.proofs.ZeroedAgain.{zeroed_taken, zeroed_twice, zeroed_turned, zeroed_byte}
 use Rattle.mp4_content.proofs.RatesShort.{box_short}
 
@@ -52,9 +52,6 @@ type_same (a ∷ b ∷ c ∷ d ∷ e ∷ f ∷ g ∷ h ∷ i ∷ j ∷ []) = ref
 type_same (a ∷ b ∷ c ∷ d ∷ e ∷ f ∷ g ∷ h ∷ i ∷ j ∷ k ∷ []) = refl
 type_same (a ∷ b ∷ c ∷ d ∷ e ∷ f ∷ g ∷ h ∷ i ∷ j ∷ k ∷ l ∷ rest) = refl
 
-pub picture_same : (h : List ℕ) → is_picture (plain_handler h) ≡ is_picture h
-picture_same h = ap (λ kind. bytes_eq kind (codes "vide")) (type_same h)
-
 handler_length : (h : List ℕ) → length (plain_handler h) ≡ length (take 24 h)
 handler_length h = zeroed_length 4 4 (zeroed 12 12 (take 24 h)) ∙ zeroed_length 12 12 (take 24 h)
 
@@ -74,9 +71,12 @@ handler_bytes h are = zeroed_byte 4 4 (zeroed 12 12 (take 24 h)) (zeroed_byte 12
 
 -- ---- sample descriptions
 
--- what is left by two words
-abbrev pub reduce_by : Bool → Bool → List ℕ → List Kept → List Kept
-reduce_by labels rates h ds = if labels then plain_descriptions h (if rates then unrated_descriptions h ds else ds) else (if rates then unrated_descriptions h ds else ds)
+-- what is left by three words
+abbrev pub rates_and_ids_by : Bool → Bool → List ℕ → List Kept → List Kept
+rates_and_ids_by rates ids h ds = if rates || ids then entries_left rates ids h ds else ds
+
+abbrev pub reduce_by : Bool → Bool → Bool → List ℕ → List Kept → List Kept
+reduce_by labels rates ids h ds = if labels then plain_descriptions h (rates_and_ids_by rates ids h ds) else rates_and_ids_by rates ids h ds
 
 abbrev plain : Bool → List ℕ → List ℕ
 plain whole payload = if whole then zeroed 42 32 payload else payload
@@ -103,65 +103,76 @@ by_kind_twice : (v : Bool) (ds : List Kept) → (if v then map plain_picture (if
 by_kind_twice true ds = map_twice plain_picture picture_twice ds
 by_kind_twice false ds = refl
 
+-- it goes by the type that a handler names
+pub same_by : (a b c : Bool) (h k : List ℕ) → handler_type h ≡ handler_type k → (ds : List Kept) → reduce_by a b c h ds ≡ reduce_by a b c k ds
+same_by a b c h k kind ds =
+    let rest : rates_and_ids_by b c h ds ≡ rates_and_ids_by b c k ds = ap (λ (kind : List ℕ). if b || c then map (λ (x : Kept). record x { payload = payload_left b c kind x.payload }) ds else ds) kind in
+    λ i. if a then (if bytes_eq (kind i) (codes "vide") then map plain_picture (rest i) else rest i) else rest i
+
 -- descriptions of a track with this handler
 module _ (h : List ℕ) where
   plain_again : (ds : List Kept) → plain_descriptions h (plain_descriptions h ds) ≡ plain_descriptions h ds
   plain_again ds = by_kind_twice (is_picture h) ds
 
-  unrated_again : (ds : List Kept) → unrated_descriptions h (unrated_descriptions h ds) ≡ unrated_descriptions h ds
-  unrated_again ds = map_twice (unrated h) (unrated_twice h) ds
+  entries_joined : (a b c d : Bool) (ds : List Kept) → entries_left a b h (entries_left c d h ds) ≡ entries_left (a || c) (b || d) h ds
+  entries_joined a b c d [] = refl
+  entries_joined a b c d (x ∷ ds) = λ i. entry_joined a b c d h x i ∷ entries_joined a b c d ds i
 
-  turned_each : is_picture h ≡ true → (ds : List Kept) → map plain_picture (map (unrated h) ds) ≡ map (unrated h) (map plain_picture ds)
-  turned_each e [] = refl
-  turned_each e (d ∷ ds) = λ i. names_and_rates h d e i ∷ turned_each e ds i
+  turned_each : (rates ids : Bool) → is_picture h ≡ true → (ds : List Kept) → map plain_picture (entries_left rates ids h ds) ≡ entries_left rates ids h (map plain_picture ds)
+  turned_each rates ids e [] = refl
+  turned_each rates ids e (d ∷ ds) = λ i. names_and_rates rates ids h d e i ∷ turned_each rates ids e ds i
 
   -- in any order
-  pub plain_turned : (ds : List Kept) → plain_descriptions h (unrated_descriptions h ds) ≡ unrated_descriptions h (plain_descriptions h ds)
-  plain_turned ds = by (is_picture h) refl
+  plain_turned : (rates ids : Bool) (ds : List Kept) → plain_descriptions h (entries_left rates ids h ds) ≡ entries_left rates ids h (plain_descriptions h ds)
+  plain_turned rates ids ds = by (is_picture h) refl
     where
-      by : (v : Bool) → is_picture h ≡ v → (if v then map plain_picture (map (unrated h) ds) else map (unrated h) ds) ≡ map (unrated h) (if v then map plain_picture ds else ds)
-      by true e = turned_each e ds
+      by : (v : Bool) → is_picture h ≡ v → (if v then map plain_picture (entries_left rates ids h ds) else entries_left rates ids h ds) ≡ entries_left rates ids h (if v then map plain_picture ds else ds)
+      by true e = turned_each rates ids e ds
       by false e = refl
 
-  abbrev left_by : Bool → Bool → List Kept → List Kept
-  left_by labels rates ds = reduce_by labels rates h ds
+  abbrev left_by : Bool → Bool → Bool → List Kept → List Kept
+  left_by labels rates ids ds = reduce_by labels rates ids h ds
 
   abbrev plain_if : Bool → List Kept → List Kept
   plain_if v ds = if v then plain_descriptions h ds else ds
 
-  abbrev unrated_if : Bool → List Kept → List Kept
-  unrated_if v ds = if v then unrated_descriptions h ds else ds
+  abbrev without : Bool → Bool → List Kept → List Kept
+  without rates ids ds = rates_and_ids_by rates ids h ds
 
-  turned_if : (b c : Bool) (ds : List Kept) → unrated_if b (plain_if c ds) ≡ plain_if c (unrated_if b ds)
-  turned_if true true ds = sym (plain_turned ds)
-  turned_if true false ds = refl
-  turned_if false c ds = refl
+  turned_if : (a b c : Bool) (ds : List Kept) → without a b (plain_if c ds) ≡ plain_if c (without a b ds)
+  turned_if true b true ds = sym (plain_turned true b ds)
+  turned_if false true true ds = sym (plain_turned false true ds)
+  turned_if false false true ds = refl
+  turned_if a b false ds = refl
 
   plain_or : (a c : Bool) (ds : List Kept) → plain_if a (plain_if c ds) ≡ plain_if (a || c) ds
   plain_or true true ds = plain_again ds
   plain_or true false ds = refl
   plain_or false c ds = refl
 
-  unrated_or : (b d : Bool) (ds : List Kept) → unrated_if b (unrated_if d ds) ≡ unrated_if (b || d) ds
-  unrated_or true true ds = unrated_again ds
-  unrated_or true false ds = refl
-  unrated_or false d ds = refl
+  without_or : (a b c d : Bool) (ds : List Kept) → without a b (without c d ds) ≡ without (a || c) (b || d) ds
+  without_or true b true d ds = entries_joined true b true d ds
+  without_or true b false true ds = entries_joined true b false true ds
+  without_or true true false false ds = refl
+  without_or true false false false ds = refl
+  without_or false true true d ds = entries_joined false true true d ds
+  without_or false true false true ds = entries_joined false true false true ds
+  without_or false true false false ds = refl
+  without_or false false c d ds = refl
 
-  left_twice : (a b c d : Bool) (ds : List Kept) → left_by a b (left_by c d ds) ≡ left_by (a || c) (b || d) ds
-  left_twice a b c d ds = ap (plain_if a) (turned_if b c (unrated_if d ds)) ∙ plain_or a c (unrated_if b (unrated_if d ds)) ∙ ap (plain_if (a || c)) (unrated_or b d ds)
+  left_twice : (a b c x y z : Bool) (ds : List Kept) → left_by a b c (left_by x y z ds) ≡ left_by (a || x) (b || y) (c || z) ds
+  left_twice a b c x y z ds = ap (plain_if a) (turned_if b c x (without y z ds)) ∙ plain_or a x (without b c (without y z ds)) ∙ ap (plain_if (a || x)) (without_or b c y z ds)
 
   -- a plain handler names the same type
-  left_same : (a b : Bool) (ds : List Kept) → reduce_by a b (plain_handler h) ds ≡ left_by a b ds
-  left_same a b ds =
-      let rates : (b : Bool) → (if b then unrated_descriptions (plain_handler h) ds else ds) ≡ unrated_if b ds = λ b. ap (λ (kind : List ℕ). if b then map (λ (k : Kept). record k { payload = unrated_payload kind k.payload }) ds else ds) (type_same h) in
-      λ i. if a then (if picture_same h i then map plain_picture (rates b i) else rates b i) else rates b i
+  left_same : (a b c : Bool) (ds : List Kept) → reduce_by a b c (plain_handler h) ds ≡ left_by a b c ds
+  left_same a b c ds = same_by a b c (plain_handler h) h (type_same h) ds
 
 -- left out by one of two words, or by both
 pub descriptions_twice : (l m : Without) (h : List ℕ) (ds : List Kept) → reduce_descriptions l (if m.labels then plain_handler h else h) (reduce_descriptions m h ds) ≡ reduce_descriptions (both l m) h ds
-descriptions_twice l m h ds = by m.labels ∙ left_twice h l.labels l.bitrates m.labels m.bitrates ds
+descriptions_twice l m h ds = by m.labels ∙ left_twice h l.labels l.bitrates l.ids m.labels m.bitrates m.ids ds
   where
-    by : (v : Bool) → reduce_by l.labels l.bitrates (if v then plain_handler h else h) (reduce_descriptions m h ds) ≡ left_by h l.labels l.bitrates (reduce_descriptions m h ds)
-    by true = left_same h l.labels l.bitrates (reduce_descriptions m h ds)
+    by : (v : Bool) → reduce_by l.labels l.bitrates l.ids (if v then plain_handler h else h) (reduce_descriptions m h ds) ≡ left_by h l.labels l.bitrates l.ids (reduce_descriptions m h ds)
+    by true = left_same h l.labels l.bitrates l.ids (reduce_descriptions m h ds)
     by false = refl
 
 plain_many : (h : List ℕ) (ds : List Kept) → length (plain_descriptions h ds) ≡ length ds
@@ -171,20 +182,26 @@ plain_many h ds = by (is_picture h)
     by true = length_mapped plain_picture ds
     by false = refl
 
+-- without rates and IDs, which leave the names of compressors
+module _ (P : List Kept → Type 0) (h : List ℕ) (ds : List Kept) where
+  rates_and_ids_so : (rates ids : Bool) → P (entries_left rates ids h ds) → P ds → P (rates_and_ids_by rates ids h ds)
+  rates_and_ids_so true ids p q = p
+  rates_and_ids_so false true p q = p
+  rates_and_ids_so false false p q = q
+
+left_so : (P : List Kept → Type 0) (h : List ℕ) (ds : List Kept) → ((es : List Kept) → P es → P (plain_descriptions h es)) → (labels : Bool) → P ds → P (if labels then plain_descriptions h ds else ds)
+left_so P h ds f true p = f ds p
+left_so P h ds f false p = p
+
 pub descriptions_many : (l : Without) (h : List ℕ) (ds : List Kept) → length (reduce_descriptions l h ds) ≡ length ds
-descriptions_many l h ds = by l.labels l.bitrates
-  where
-    by : (a b : Bool) → length (reduce_by a b h ds) ≡ length ds
-    by true true = plain_many h (unrated_descriptions h ds) ∙ length_mapped (unrated h) ds
-    by true false = plain_many h ds
-    by false true = length_mapped (unrated h) ds
-    by false false = refl
+descriptions_many l h ds = left_so (λ es. length es ≡ length ds) h (rates_and_ids_by l.bitrates l.ids h ds) (λ es e. plain_many h es ∙ e) l.labels
+    (rates_and_ids_so (λ es. length es ≡ length ds) h ds l.bitrates l.ids (length_mapped (entry_left l.bitrates l.ids h) ds) refl)
 
 picture_less : (k : Kept) → length (kept_bytes (plain_picture k)) ≤ length (kept_bytes k)
 picture_less k = let same = plain_length (nat_le 78 (length k.payload)) k.payload in box_short k (plain_picture k).payload (omega (arith, same))
 
-unrated_less : (h : List ℕ) (k : Kept) → length (kept_bytes (unrated h k)) ≤ length (kept_bytes k)
-unrated_less h k = box_short k (unrated h k).payload (unrated_short (handler_type h) k.payload)
+entry_less : (rates ids : Bool) (h : List ℕ) (k : Kept) → length (kept_bytes (entry_left rates ids h k)) ≤ length (kept_bytes k)
+entry_less rates ids h k = box_short k (entry_left rates ids h k).payload (payload_short rates ids (handler_type h) k.payload)
 
 map_less : (f : Kept → Kept) → ((k : Kept) → length (kept_bytes (f k)) ≤ length (kept_bytes k)) → (ds : List Kept) → length (flat_map kept_bytes (map f ds)) ≤ length (flat_map kept_bytes ds)
 map_less f less [] = omega arith
@@ -203,13 +220,10 @@ plain_less h ds = by (is_picture h)
     by false = omega arith
 
 pub descriptions_less : (l : Without) (h : List ℕ) (ds : List Kept) → length (flat_map kept_bytes (reduce_descriptions l h ds)) ≤ length (flat_map kept_bytes ds)
-descriptions_less l h ds = by l.labels l.bitrates
-  where
-    by : (a b : Bool) → length (flat_map kept_bytes (reduce_by a b h ds)) ≤ length (flat_map kept_bytes ds)
-    by true true = let one = plain_less h (unrated_descriptions h ds) in let two = map_less (unrated h) (unrated_less h) ds in omega (arith, one, two)
-    by true false = plain_less h ds
-    by false true = map_less (unrated h) (unrated_less h) ds
-    by false false = omega arith
+descriptions_less l h ds =
+    let most = length (flat_map kept_bytes ds) in
+    left_so (λ es. length (flat_map kept_bytes es) ≤ most) h (rates_and_ids_by l.bitrates l.ids h ds) (λ es e. let less = plain_less h es in omega (arith, less, e)) l.labels
+    (rates_and_ids_so (λ es. length (flat_map kept_bytes es) ≤ most) h ds l.bitrates l.ids (map_less (entry_left l.bitrates l.ids h) (entry_less l.bitrates l.ids h) ds) (omega arith))
 
 -- well formed
 reference_same : (v : Bool) (payload : List ℕ) → 8 ≤ length payload → field (plain v payload) 6 2 ≡ field payload 6 2
@@ -246,13 +260,5 @@ mapped_good true ds h = each_value IsDescription IsDescription plain_picture pic
 mapped_good false ds h = h
 
 pub descriptions_good : (l : Without) (h : List ℕ) (ds : List Kept) → AllByRecursion IsDescription ds → AllByRecursion IsDescription (reduce_descriptions l h ds)
-descriptions_good l h ds all = by l.labels l.bitrates
-  where
-    rates : AllByRecursion IsDescription (unrated_descriptions h ds)
-    rates = each_value IsDescription IsDescription (unrated h) (unrated_good h) ds all
-
-    by : (a b : Bool) → AllByRecursion IsDescription (reduce_by a b h ds)
-    by true true = mapped_good (is_picture h) (unrated_descriptions h ds) rates
-    by true false = mapped_good (is_picture h) ds all
-    by false true = rates
-    by false false = all
+descriptions_good l h ds all = left_so (AllByRecursion IsDescription) h (rates_and_ids_by l.bitrates l.ids h ds) (λ es e. mapped_good (is_picture h) es e) l.labels
+    (rates_and_ids_so (AllByRecursion IsDescription) h ds l.bitrates l.ids (each_value IsDescription IsDescription (entry_left l.bitrates l.ids h) (entry_good l.bitrates l.ids h) ds all) all)

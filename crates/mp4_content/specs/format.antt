@@ -17,5 +17,6 @@ pub mod RemainingLaws
 pub mod LeadIns
 pub mod LeadInsLaws
 pub mod TimedSamples
+pub mod DecodeTimes
 pub mod Alignment
 pub mod AlignmentLaws

@@ -17,3 +17,4 @@ pub mod SamePairs
 pub mod Scales
 pub mod TakenSamples
 pub mod TwoStores
+pub mod TimesTaken

@@ -92,7 +92,10 @@ fn same_in_front<S: Store, T: Store, L: Ledger, M: Ledger>(
     ensures grows { OnOk result (steps.old.passed ≤ steps.new.passed) }
     ensures looks { steps.new.looks ≡ steps.old.looks }
 {
-    let mut seen = FirstDifference { first: None };
+    let mut seen = FirstDifference {
+        first: None,
+        time: None,
+    };
     let _all = compare_track_samples(alloc, tracks, left, right, &mut seen, steps)?;
     Ok(front_before(seen.first, counts.left.min(counts.right)))
 }

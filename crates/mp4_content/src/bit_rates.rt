@@ -1,5 +1,5 @@
 //! Sample descriptions without bit rates and sizes of buffers (ISO/IEC 14496-12, 8.5.2.2, and
-//! ISO/IEC 14496-1, 7.2.6.6).
+//! ISO/IEC 14496-1, 7.2.6.6), and without ES_ID (ISO/IEC 14496-14, 3.1.2).
 ghost use Rattle.std.specs.Prelude.{ℕ, ◌==◌, ◌≡◌, ◌+◌, ◌-◌, ◌<◌, ◌≤◌, ◌^◌, ◌++◌, ◌&&◌, [], ◌∷◌, length, drop, IfOk, OnOk, IsTrue, bytes_eq, slice_index};
 ghost use Rattle.std.specs.List.{flat_map, list_all};
 ghost use Rattle.mp4_boxes.specs.format.Bytes.{field};
@@ -7,9 +7,10 @@ ghost use Rattle.mp4_boxes.specs.format.Written.{box_bytes};
 ghost use Rattle.mp4_head.specs.format.Head.{handler_type};
 ghost use Rattle.mp4_head.specs.format.Writing.{kept_bytes};
 ghost use Rattle.mp4_head.specs.words.Seen.{kept_seen};
-ghost use Rattle.mp4_content.specs.format.BitRates.{are_zeros, begins_box, behind_left, box_left, clock_at, config_at, content_at, content_end, ends_in_rates, esds_left, first_box, has_descriptor, has_rates, inner_box_left, left_of_boxes, length_number, length_width, other_left, rates_at, sound_left, stream_flags, tiles_left, unrated_payload, url_at, wave_left};
+ghost use Rattle.mp4_content.specs.format.BitRates.{are_zeros, begins_box, behind_left, box_left, clock_at, config_at, content_at, content_end, ends_in_rates, esds_left, first_box, has_descriptor, has_id, has_rates, id_zeroed, inner_box_left, left_of_boxes, length_number, length_width, other_left, payload_left, rates_at, rates_zeroed, sound_left, stream_flags, tiles_left, url_at, wave_left};
 
 use crate::own_payloads::{copied, put_zeros};
+use crate::without::{Without, Word};
 use mp4_boxes::{FourCc, Memory, u16_at, u32_at};
 use mp4_head::Kept;
 use std::alloc::Global;
@@ -165,13 +166,46 @@ fn has_rates(payload: &[u8]) -> bool
         && rates_at(payload) + 11 <= content_end(payload, at)
 }
 
+// Whether ES_ID is there.
+#[tactic(auto, unfolding(crate::specs::format::BitRates::has_id))]
+fn has_id(payload: &[u8]) -> bool
+    ensures { result ≡ has_id payload.now }
+{
+    has_descriptor(3, payload.len(), payload, 4)
+        && content_at(payload, 4) + 2 <= content_end(payload, 4)
+}
+
+// Puts zeros in the place of bit rates and the size of a buffer, where they are there.
+fn zero_rates(payload: &mut [u8])
+    ensures { payload.new ≡ rates_zeroed payload.old }
+{
+    if has_rates(payload) {
+        let at = rates_at(payload);
+        put_zeros(payload, at, 11);
+    }
+}
+
+// Puts zeros in the place of ES_ID, where it is there.
+fn zero_id(payload: &mut [u8])
+    ensures { payload.new ≡ id_zeroed payload.old }
+{
+    if has_id(payload) {
+        let at = content_at(payload, 4);
+        put_zeros(payload, at, 2);
+    }
+}
+
 // What is left of the payload of an `esds`.
-fn esds_left(alloc: Global, payload: &[u8]) -> Result<Vec<u8>, Memory>
-    ensures { IfOk result (λ left. left.items ≡ esds_left payload.now) }
+fn esds_left(alloc: Global, leaving: Without, payload: &[u8]) -> Result<Vec<u8>, Memory>
+    ensures { IfOk result (λ left. left.items
+        ≡ esds_left leaving.bitrates leaving.ids payload.now) }
 {
     let mut left = copied(alloc, payload)?;
-    if has_rates(payload) {
-        put_zeros(left.as_mut_slice(), rates_at(payload), 11);
+    if leaving.has(Word::Ids) {
+        zero_id(left.as_mut_slice());
+    }
+    if leaving.has(Word::Bitrates) {
+        zero_rates(left.as_mut_slice());
     }
     Ok(left)
 }
@@ -243,30 +277,32 @@ fn put_box(out: &mut Vec<u8>, kind: FourCc, payload: &[u8]) -> Result<(), Memory
 }
 
 // Adds what is left of a box in a `wave`.
-fn put_inner(alloc: Global, out: &mut Vec<u8>, kept: &Kept) -> Result<(), Memory>
+fn put_inner(alloc: Global, leaving: Without, out: &mut Vec<u8>, kept: &Kept) -> Result<(), Memory>
     requires { length kept.now.payload.now + 8 < 2 ^ 32 }
     ensures { OnOk result (out.new.items ≡ out.old.items
-        ++ flat_map kept_bytes (left_of_boxes inner_box_left (kept_seen kept.now ∷ []))) }
+        ++ flat_map kept_bytes (left_of_boxes leaving.bitrates
+        (inner_box_left leaving.bitrates leaving.ids) (kept_seen kept.now ∷ []))) }
 {
-    if kept.kind == FourCc(*b"btrt") {
+    if leaving.has(Word::Bitrates) && kept.kind == FourCc(*b"btrt") {
         return Ok(());
     }
     if kept.kind != FourCc(*b"esds") {
         return put_box(out, kept.kind, kept.payload);
     }
-    let left = esds_left(alloc, kept.payload)?;
+    let left = esds_left(alloc, leaving, kept.payload)?;
     put_box(out, kept.kind, left.as_slice())
 }
 
 // What is left of the payload of a `wave`.
-fn wave_left(alloc: Global, payload: &[u8]) -> Result<Vec<u8>, Memory>
-    ensures { IfOk result (λ left. left.items ≡ wave_left payload.now) }
+fn wave_left(alloc: Global, leaving: Without, payload: &[u8]) -> Result<Vec<u8>, Memory>
+    ensures { IfOk result (λ left. left.items
+        ≡ wave_left leaving.bitrates leaving.ids payload.now) }
 {
     let mut left = Vec::new(alloc);
     let mut rest = payload;
     while begins_box(rest) {
         let (kept, behind) = split_box(rest);
-        put_inner(alloc, &mut left, &kept)?;
+        put_inner(alloc, leaving, &mut left, &kept)?;
         rest = behind;
     }
     if !are_zeros(rest, 0) {
@@ -277,27 +313,34 @@ fn wave_left(alloc: Global, payload: &[u8]) -> Result<Vec<u8>, Memory>
 }
 
 // Adds what is left of a box in a description.
-fn put_left(alloc: Global, out: &mut Vec<u8>, kept: &Kept) -> Result<(), Memory>
+fn put_left(alloc: Global, leaving: Without, out: &mut Vec<u8>, kept: &Kept) -> Result<(), Memory>
     requires { length kept.now.payload.now + 8 < 2 ^ 32 }
     ensures { OnOk result (out.new.items ≡ out.old.items
-        ++ flat_map kept_bytes (left_of_boxes box_left (kept_seen kept.now ∷ []))) }
+        ++ flat_map kept_bytes (left_of_boxes leaving.bitrates
+        (box_left leaving.bitrates leaving.ids) (kept_seen kept.now ∷ []))) }
 {
     if kept.kind != FourCc(*b"wave") {
-        return put_inner(alloc, out, kept);
+        return put_inner(alloc, leaving, out, kept);
     }
-    let left = wave_left(alloc, kept.payload)?;
+    let left = wave_left(alloc, leaving, kept.payload)?;
     put_box(out, kept.kind, left.as_slice())
 }
 
 // What is left of bytes that boxes tile, up to so many zeros at their end.
-fn tiles_left(alloc: Global, zeros: usize, bytes: &[u8]) -> Result<Vec<u8>, Memory>
-    ensures { IfOk result (λ left. left.items ≡ tiles_left box_left zeros bytes.now) }
+fn tiles_left(
+    alloc: Global,
+    leaving: Without,
+    zeros: usize,
+    bytes: &[u8],
+) -> Result<Vec<u8>, Memory>
+    ensures { IfOk result (λ left. left.items ≡ tiles_left leaving.bitrates
+        (box_left leaving.bitrates leaving.ids) zeros bytes.now) }
 {
     let mut left = Vec::new(alloc);
     let mut rest = bytes;
     while begins_box(rest) {
         let (kept, behind) = split_box(rest);
-        put_left(alloc, &mut left, &kept)?;
+        put_left(alloc, leaving, &mut left, &kept)?;
         rest = behind;
     }
     if !are_zeros(rest, zeros) {
@@ -310,29 +353,38 @@ fn tiles_left(alloc: Global, zeros: usize, bytes: &[u8]) -> Result<Vec<u8>, Memo
 // ---- descriptions
 
 // What is left of the payload of a description whose boxes begin at a place.
-fn behind_left(alloc: Global, at: usize, zeros: usize, payload: &[u8]) -> Result<Vec<u8>, Memory>
-    ensures { IfOk result (λ left. left.items ≡ behind_left at zeros payload.now) }
+fn behind_left(
+    alloc: Global,
+    leaving: Without,
+    at: usize,
+    zeros: usize,
+    payload: &[u8],
+) -> Result<Vec<u8>, Memory>
+    ensures { IfOk result (λ left. left.items
+        ≡ behind_left leaving.bitrates leaving.ids at zeros payload.now) }
 {
     if payload.len() < at {
         return copied(alloc, payload);
     }
     let (front, boxes) = payload.split_at(at);
     let mut left = copied(alloc, front)?;
-    put(&mut left, tiles_left(alloc, zeros, boxes)?.as_slice())?;
+    let tiles = tiles_left(alloc, leaving, zeros, boxes)?;
+    put(&mut left, tiles.as_slice())?;
     Ok(left)
 }
 
 // What is left of the payload of an AudioSampleEntry.
-fn sound_left(alloc: Global, payload: &[u8]) -> Result<Vec<u8>, Memory>
-    ensures { IfOk result (λ left. left.items ≡ sound_left payload.now) }
+fn sound_left(alloc: Global, leaving: Without, payload: &[u8]) -> Result<Vec<u8>, Memory>
+    ensures { IfOk result (λ left. left.items
+        ≡ sound_left leaving.bitrates leaving.ids payload.now) }
 {
     if payload.len() < 28 {
         return copied(alloc, payload);
     }
     match u16_at(payload, 8) {
-        0 => behind_left(alloc, 28, 0, payload),
-        1 => behind_left(alloc, 44, 0, payload),
-        2 => behind_left(alloc, 64, 0, payload),
+        0 => behind_left(alloc, leaving, 28, 0, payload),
+        1 => behind_left(alloc, leaving, 44, 0, payload),
+        2 => behind_left(alloc, leaving, 64, 0, payload),
         _ => copied(alloc, payload),
     }
 }
@@ -372,15 +424,22 @@ pub(crate) fn is_type(handler: &[u8], kind: &[u8; 4]) -> bool
 }
 
 /// What is left of the payload of a sample description, by the handler of its track.
-pub(crate) fn unrated(alloc: Global, handler: &[u8], payload: &[u8]) -> Result<Vec<u8>, Memory>
+pub(crate) fn payload_left(
+    alloc: Global,
+    leaving: Without,
+    handler: &[u8],
+    payload: &[u8],
+) -> Result<Vec<u8>, Memory>
     ensures { IfOk result (λ left. left.items
-        ≡ unrated_payload (handler_type handler.now) payload.now) }
+        ≡ payload_left leaving.bitrates leaving.ids (handler_type handler.now) payload.now) }
 {
     if is_type(handler, b"vide") {
-        behind_left(alloc, 78, 4, payload)
+        behind_left(alloc, leaving, 78, 4, payload)
     } else if is_type(handler, b"soun") {
-        sound_left(alloc, payload)
-    } else {
+        sound_left(alloc, leaving, payload)
+    } else if leaving.has(Word::Bitrates) {
         other_left(alloc, payload)
+    } else {
+        copied(alloc, payload)
     }
 }

@@ -163,7 +163,7 @@ fn last_different<S: Store, T: Store, L: Ledger, M: Ledger>(
                 number += 1;
                 let next = Next { movies, by, number };
                 let found = compare_pair(alloc, next, sides, left, right, steps)?;
-                last = last_with(last, number, found.as_slice());
+                last = last_with(last, number, found.differences.as_slice());
             }
         }
     }

@@ -3,8 +3,9 @@
 //!
 //! - [`Without`] is a set of [`Word`]s, which say what of a presentation doesn't count
 //!   ([`reduced_laws`], [`covering_laws`]).
-//! - [`compare`] names the first [`Difference`] between two opened files, the two [`Movies`];
-//!   [`compare_all`] hands each to a [`Differences`] ([`comparing_laws`], [`complete_laws`]).
+//! - [`compare`] names the first [`Difference`] between two opened files, the two [`Movies`], and
+//!   when its sample is decoded; [`compare_all`] hands each to a [`Differences`]
+//!   ([`comparing_laws`], [`complete_laws`]).
 //! - [`align`] says of each two tracks whose samples are not the same how many of them are the same
 //!   in front and at the end, an [`Alignment`], and what stands [`Between`] ([`aligning_laws`]).
 //!   [`compare_listed`] leaves out the samples that it tells of.
@@ -44,7 +45,7 @@
 //! let all = Without::NOTHING;
 //! let times = Without::each(|word| word == Word::Times);
 //! let first = compare(rt.alloc(), &movies, &mut left, &mut right, all, &mut steps)?;
-//! assert_eq!(rt; first.map(|found| found.field), Some(Field::Modification));
+//! assert_eq!(rt; first.map(|found| found.difference.field), Some(Field::Modification));
 //! let first = compare(rt.alloc(), &movies, &mut left, &mut right, times, &mut steps)?;
 //! assert_eq!(rt; first, None);
 //! ```
@@ -77,9 +78,11 @@ mod tracks_left;
 mod without;
 
 pub use aligning::{Alignment, Between, align};
-pub use comparing::differences::{Difference, Differences, Entries, Field, Part, Subject, Value};
+pub use comparing::differences::{
+    DecodeTime, Difference, Differences, Entries, Field, Part, Subject, Value,
+};
 pub use comparing::movies::Movies;
-pub use comparing::{compare, compare_all, compare_listed};
+pub use comparing::{Found, compare, compare_all, compare_listed};
 pub use content::Content;
 pub use lead_ins::waits;
 pub use measures::reduction_of;

@@ -1,13 +1,13 @@
 //! What is left of payloads of heads, in memory of its own.
-ghost use Rattle.std.specs.Prelude.{◌≡◌, ◌+◌, ◌<◌, ◌^◌, if◌then◌else◌, true, map, IfOk, OnOk};
+ghost use Rattle.std.specs.Prelude.{◌≡◌, ◌+◌, ◌<◌, ◌^◌, ◌||◌, if◌then◌else◌, true, map, IfOk, OnOk};
 ghost use Rattle.mp4_head.specs.format.Head.{handler_type};
 ghost use Rattle.mp4_head.specs.words.Seen.{kept_seen, media_seen, movie_seen, track_seen, tracks_seen};
-ghost use Rattle.mp4_content.specs.format.BitRates.{unrated_payload};
+ghost use Rattle.mp4_content.specs.format.BitRates.{payload_left};
 ghost use Rattle.mp4_content.specs.format.Reduced.{is_picture, plain_handler, plain_picture, reduce_media};
 ghost use Rattle.mp4_content.specs.format.Zeros.{zeroed};
 ghost use Rattle.mp4_content.specs.words.PayloadsLeft.{AreMediaLeft, IsMediaLeft, box_left_seen, description_left, leaves_payloads, track_payloads_left};
 
-use crate::bit_rates::{is_type, unrated};
+use crate::bit_rates::{is_type, payload_left};
 use crate::without::{Without, Word};
 use mp4_boxes::{FourCc, Memory};
 use mp4_head::{Kept, Media, MovieHead, TrackHead};
@@ -79,18 +79,20 @@ fn is_picture(handler: &[u8]) -> bool
     is_type(handler, b"vide")
 }
 
-// What is left of the payload of a sample description without bit rates, where these are left out.
-fn rates_left(
+// What is left of the payload of a sample description without bit rates, and without the ID in it,
+// where these are left out.
+fn rates_and_id_left(
     alloc: Global,
     leaving: Without,
     handler: &[u8],
     payload: &[u8],
 ) -> Result<Vec<u8>, Memory>
-    ensures { IfOk result (λ left. left.items ≡ (if leaving.bitrates
-        then unrated_payload (handler_type handler.now) payload.now else payload.now)) }
+    ensures { IfOk result (λ left. left.items ≡ (if leaving.bitrates || leaving.ids
+        then payload_left leaving.bitrates leaving.ids (handler_type handler.now) payload.now
+        else payload.now)) }
 {
-    if leaving.has(Word::Bitrates) {
-        unrated(alloc, handler, payload)
+    if leaving.has(Word::Bitrates) || leaving.has(Word::Ids) {
+        payload_left(alloc, leaving, handler, payload)
     } else {
         copied(alloc, payload)
     }
@@ -117,7 +119,7 @@ fn description_left(
     ensures { IfOk result (λ left. box_left_seen left
         ≡ description_left leaving handler.now (kept_seen kept.now)) }
 {
-    let payload = rates_left(alloc, leaving, handler, kept.payload)?;
+    let payload = rates_and_id_left(alloc, leaving, handler, kept.payload)?;
     let left = BoxLeft {
         kind: kept.kind,
         payload,

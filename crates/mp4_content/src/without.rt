@@ -30,7 +30,8 @@ pub enum Word {
     /// What a player does with a track beside others: its flags but "track enabled" (8.3.2.3), its
     /// layer and its alternate group (8.3.2): they are 0.
     Roles,
-    /// Which IDs tracks have (8.3.2): each has its place among the tracks of the movie, from 1.
+    /// Which IDs tracks have (8.3.2): each has its place among the tracks of the movie, from 1. In
+    /// `esds` of sample descriptions, where writers put them, ES_ID is 0 (ISO/IEC 14496-14, 3.1.2).
     Ids,
     /// In which timescales times are said (8.2.2, 8.4.2): the times of a track and its timescale
     /// are divided by what divides all of them, and so are those of the movie.
@@ -253,6 +254,6 @@ impl Without {
     pub(crate) fn leaves_payloads(self) -> bool
         ensures { result ≡ leaves_payloads self }
     {
-        self.labels || self.bitrates
+        self.labels || self.bitrates || self.ids
     }
 }

@@ -60,6 +60,7 @@ pub mod MoofSound
 pub mod TrafTaken
 pub mod TrackNumbers
 pub mod SampleTotals
+pub mod MoofBegins
 pub mod Assembled
 pub mod DenotedOpens
 pub mod SamplesLie
@@ -67,6 +68,7 @@ pub mod WalkCopied
 pub mod TrafInHand
 pub mod OwnSums
 pub mod OwnPlaced
+pub mod InFragment
 pub mod WalkBegun
 pub mod TrexesById
 pub mod WalkWork

@@ -31,10 +31,6 @@ pub shown_own : (file : List ℕ) (t : FileTree) → IsTreeOf file t → IsShown
 unfolding IsShownOf
 shown_own file t is = (t, is, refl)
 
-pub shown_only : (file : List ℕ) (own : FileTree) (place : ℕ) → IsTreeOf file own → IsShownOf file (Some place) None (only_tree (Some place) own)
-unfolding IsShownOf
-shown_only file own place is = (own, is, refl)
-
 -- where they aren't told to wait, they can be told that
 pub shown_told : (file waits : List ℕ) (only : Option ℕ) (u t : FileTree) → IsShownOf file only None u → IsFileTold waits u t → IsShownOf file only (Some waits) t
 unfolding IsShownOf
@@ -161,14 +157,17 @@ pub moov_told : (w : Option (List ℕ)) (u t : FileTree) → IsTold w u t → u.
 moov_told None u t e = ap (λ (x : FileTree). x.movie.moov) (sym e)
 moov_told (Some waits) u t told = ap (λ (x : FileTree). x.movie.moov) (sym (told_is waits u t told))
 
--- a movie says what its tree says
-pub tree_said : (file : List ℕ) (m : MovieSeen) (tree : FileTree) (head : MovieHead) → IsOpenedAs file m tree → SaysMovie m head → SaysTree tree.movie head
+-- a movie says what the tree says that it shows
+pub shown_said : (file : List ℕ) (m : MovieSeen) (tree : FileTree) (head : MovieHead) → IsShownOf file m.only m.waits tree → moov_box m ≡ tree.movie.moov → SaysMovie m head → SaysTree tree.movie head
 unfolding IsShownOf
-tree_said file m tree head o s =
-    let own : FileTree = o.shown.0 in
-    let is : IsTreeOf file own = o.shown.1 in
-    let told : IsTold m.waits (only_tree m.only own) tree = o.shown.2 in
-    shown_says m own tree head is.is_tree.movie (moov_told m.waits (only_tree m.only own) tree told ∙ sym o.moov) told s
+shown_said file m tree head shown moov s =
+    let own : FileTree = shown.0 in
+    let is : IsTreeOf file own = shown.1 in
+    let told : IsTold m.waits (only_tree m.only own) tree = shown.2 in
+    shown_says m own tree head is.is_tree.movie (moov_told m.waits (only_tree m.only own) tree told ∙ sym moov) told s
+
+pub tree_said : (file : List ℕ) (m : MovieSeen) (tree : FileTree) (head : MovieHead) → IsOpenedAs file m tree → SaysMovie m head → SaysTree tree.movie head
+tree_said file m tree head o s = shown_said file m tree head o.shown o.moov s
 
 -- what a movie says that is told to wait is what the boxes say that tell it
 pub told_said : (file : List ℕ) (m : MovieSeen) (tree told : FileTree) (waits : List ℕ) (n : ℕ) (head : MovieHead) → IsOpenedAs file m tree → m.waits ≡ None → IsFileTold waits tree told → SaysMovie (record m { waits = Some waits; mehd = n }) head → SaysTree told.movie head

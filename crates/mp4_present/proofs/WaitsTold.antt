@@ -192,6 +192,7 @@ module _ (waits : List ℕ) (file : List ℕ) (m : MovieSeen) (tree : FileTree) 
     whole = o.whole;
     moov = o.moov;
     longest_is = o.longest_is;
+    moofs = o.moofs;
     tables = zip_told (AreTablesOf m.moov) (AreTablesOf m.moov) tables_stay waits tree.movie.tracks m.tables o.tables;
     states = o.states ∙ sym (map_told (plain_seen (trexes_of tree.movie)) (plain_seen (trexes_of tree.movie)) (λ t edits. refl) waits tree.movie.tracks);
     tracks = infos_are;

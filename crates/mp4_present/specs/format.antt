@@ -1,5 +1,6 @@
 pub mod Presentation
 pub mod Denotes
+pub mod SamplePlaces
 pub mod ByBytes
 pub mod Stands
 pub mod FaultNumbers

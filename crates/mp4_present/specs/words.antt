@@ -22,6 +22,7 @@ pub mod Measured
 pub mod Passing
 pub mod SamplesComing
 pub mod PassedMoofs
+pub mod InFragment
 pub mod WalkSteps
 pub mod WalkLaws
 pub mod GoingBack

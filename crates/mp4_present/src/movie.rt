@@ -29,8 +29,8 @@ pub struct TrackTables {
     pub(crate) tables: TablesAt,
 }
 
-/// A file that denotes a presentation. It holds the bytes of its `moov`, and not the store: what
-/// reads takes it again.
+/// A file that denotes a presentation. It holds the bytes of its `moov` and where `moof`s begin,
+/// and not the store: what reads takes it again.
 #[derive(Drop)]
 pub struct Movie {
     pub(crate) top: TopBox,
@@ -38,6 +38,8 @@ pub struct Movie {
     pub(crate) file_len: u64,
     /// The length of the longest `moof`.
     pub(crate) longest: u64,
+    /// Where the `moof`s begin, in file order.
+    pub(crate) moofs: Vec<u64>,
     pub(crate) tables: Vec<TrackTables>,
     /// The tracks behind their tables.
     pub(crate) states: Vec<TrackState>,
@@ -63,6 +65,7 @@ impl Model for Movie {
       moov = m.moov.items;
       file_len = m.file_len;
       longest = m.longest;
+      moofs = m.moofs.items;
       tables = m.tables.items;
       states = m.states.items;
       tracks = m.tracks.items;
@@ -77,6 +80,7 @@ impl Model for Movie {
       moov = m.moov.items;
       file_len = m.file_len;
       longest = m.longest;
+      moofs = m.moofs.items;
       tables = m.tables.items;
       states = m.states.items;
       tracks = m.tracks.items;
@@ -88,7 +92,8 @@ impl Model for Movie {
 }
 
 impl Movie {
-    ghost use Rattle.std.specs.Prelude.{◌≡◌, ◌+◌, ◌^◌, ◌<◌, ◌≤◌, length, slice_get, Some, IfOk, IfSome};
+    ghost use Rattle.std.specs.Prelude.{ℕ, ◌≡◌, ◌+◌, ◌^◌, ◌<◌, ◌≤◌, List, ◌++◌, length, slice_get, Some, IfOk, IfSome};
+    ghost use Rattle.std.specs.List.{AllByRecursion};
     ghost use Rattle.mp4_present.specs.words.HeadsRead.{SaysMovie};
     ghost use Rattle.mp4_present.specs.words.Movies.{IsMovie, own_room, tables_seen, trex_at};
     ghost use Rattle.mp4_frag.specs.words.OwnTrafs.{OwnSeen};
@@ -123,6 +128,15 @@ impl Movie {
         ensures { result ≡ self.now.mehd }
     {
         self.mehd
+    }
+
+    // How many `moof`s begin before a place of the file.
+    pub(crate) fn moofs_before(&self, at: u64) -> usize
+        ensures { (front back : List ℕ) → self.now.moofs ≡ front ++ back
+            → AllByRecursion (λ n. n < at) front → AllByRecursion (λ n. at ≤ n) back
+            → result ≡ length front }
+    {
+        self.moofs.as_slice().partition_point(|begin| *begin < at)
     }
 
     // What the fragments of a track inherit.

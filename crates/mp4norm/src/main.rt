@@ -18,8 +18,8 @@ mod running;
 mod shell;
 
 pub use mp4_answers::{
-    Asked, Failure, Form, Job, Line, Lines, Listing, Name, Side, Syntax, VerdictStyle, Way,
-    answer_laws, boxes, boxes_as, boxes_with_fields, check, check_counted, compare_files,
+    Asked, Failure, Form, Job, Line, LineForm, Lines, Listing, Name, Side, Syntax, VerdictStyle,
+    Way, answer_laws, boxes, boxes_as, boxes_with_fields, check, check_counted, compare_files,
     count_named, extract, extract_counted, fault_line, laws, normalise, normalise_counted,
     normalise_reduced, perform, print, put_lines, put_verdict, samples, samples_as,
     samples_counted, say_difference, show, show_counted, show_text, status, strip, sum_file,

@@ -7,12 +7,12 @@ use Rattle.mp4_content.specs.declared.without.Without.{Without}
 use Rattle.mp4_answers.specs.words.OpenedTold.{RefusesTold}
 use Rattle.mp4_answers.specs.declared.commands.compare.Asked.{Asked}
 use Rattle.mp4_answers.specs.declared.commands.compare.Failure.{Failure}
+use Rattle.mp4_answers.specs.declared.commands.compare.LineForm.{LineForm}
+use Rattle.mp4_answers.specs.declared.commands.compare.LineForm.TheVariants as forms
 use Rattle.mp4_answers.specs.declared.commands.compare.Listing.{Listing}
 use Rattle.mp4_answers.specs.declared.commands.compare.Listing.TheVariants as listings
 use Rattle.mp4_answers.specs.declared.commands.compare.Side.{Side}
 use Rattle.mp4_answers.specs.declared.commands.compare.Side.TheVariants as sides
-use Rattle.mp4_answers.specs.declared.jobs.Syntax.{Syntax}
-use Rattle.mp4_answers.specs.declared.jobs.Syntax.TheVariants as syntaxes
 use Rattle.mp4_answers.specs.declared.selection.Selection.{Selection}
 use Rattle.mp4_answers.specs.format.CompareHeadline.{IsVerdict, IsTold, PutsSuch, of_first, of_second}
 use Rattle.mp4_answers.specs.words.Compares.{PutsAnswer, PutsSame, RefusesAnswer, RefusesBoth, RefusesCompare, is_silent, is_text}
@@ -63,13 +63,14 @@ module _ (asked : Asked) (file other : List ℕ) (Took : List ℕ → Type 0) (p
 
 -- ---- what is put of files that are the same
 
-same_as_text : (syntax : Syntax) (l : Without) (Took : List ℕ → Type 0) → PutsSame l (is_text syntax) Took → Took (same_in syntax l)
-same_as_text syntaxes.Text l Took p = p
-same_as_text syntaxes.Json l Took p = p
+same_as_text : (form : LineForm) (l : Without) (Took : List ℕ → Type 0) → PutsSame l (is_text form) Took → Took (same_in form l)
+same_as_text forms.Text l Took p = p
+same_as_text forms.Timed l Took p = p
+same_as_text forms.Json l Took p = p
 
 same_as_listed : (listing : Listing) (l : Without) (Took : List ℕ → Type 0) → PutsSame l (is_silent listing) Took → Took (same_listed listing l)
-same_as_listed (listings.First syntax) l Took p = p
-same_as_listed (listings.All lines) l Took p = same_as_text lines.syntax l Took p
+same_as_listed (listings.First form) l Took p = p
+same_as_listed (listings.All lines) l Took p = same_as_text lines.form l Took p
 
 pub same_put : (asked : Asked) (Took : List ℕ → Type 0) (same : Bool) → PutsAnswer asked.leaving (is_silent asked.listing) Took same → same ≡ true → Took (same_text asked)
 same_put asked Took true p e = same_as_listed asked.listing asked.leaving Took p

@@ -2,7 +2,7 @@
 ghost use Rattle.std.specs.Prelude.{◌≡◌, ◌<◌};
 ghost use Rattle.mp4norm_c.specs.format.Exports.{asked_of, comparison_asked, first_asked, form_of, has_flag, listing_of, syntax_of, without_of};
 
-use mp4_answers::{Asked, Form, Lines, Listing, Syntax};
+use mp4_answers::{Asked, Form, LineForm, Lines, Listing, Syntax};
 use mp4_content::{Without, Word};
 
 /// What is asked of a comparison.
@@ -75,10 +75,10 @@ fn listing_of(number: u32, limit: u32, syntax: Option<Syntax>) -> Option<Listing
     ensures { result ≡ listing_of number limit syntax }
 {
     match (number, syntax) {
-        (0, Some(syntax)) => Some(Listing::First(syntax)),
+        (0, Some(syntax)) => Some(Listing::First(LineForm::of(syntax))),
         (1 | 2, Some(syntax)) => Some(Listing::All(Lines {
             limit,
-            syntax,
+            form: LineForm::of(syntax),
             aligned: number == 2,
         })),
         _ => None,
@@ -105,7 +105,7 @@ fn asked_of(leaving: Option<Without>, listing: Option<Listing>) -> Option<Asked>
 pub(crate) fn first_asked(flags: u32) -> Option<Asked>
     ensures { result ≡ first_asked flags }
 {
-    asked_of(without_of(flags), Some(Listing::First(Syntax::Text)))
+    asked_of(without_of(flags), Some(Listing::First(LineForm::Text)))
 }
 
 /// What these numbers ask of a comparison; none where one of them is not known.

@@ -8,12 +8,16 @@ use Rattle.mp4_present.specs.format.Presentation.{IsWithinLimits, Track, Present
 use Rattle.mp4_content.specs.format.Alignment.{AreAligned, listed}
 use Rattle.mp4_content.specs.format.LeadIns.{left_of, told, words_told}
 use Rattle.mp4_content.specs.format.Comparison.{differences}
+use Rattle.mp4_content.specs.format.DecodeTimes.{decode_time}
 use Rattle.mp4_content.specs.declared.aligning.Alignment.{Alignment}
+use Rattle.mp4_content.specs.declared.comparing.differences.DecodeTime.{DecodeTime}
 use Rattle.mp4_content.specs.declared.comparing.differences.Difference.{Difference}
 use Rattle.mp4_content.specs.declared.without.Without.{Without}
 use Rattle.mp4_content.specs.format.Words.{all_words}
 use Rattle.mp4_content.specs.format.CoveringLaws.{Covers}
 use Rattle.mp4_answers.specs.declared.commands.compare.Asked.{Asked}
+use Rattle.mp4_answers.specs.declared.commands.compare.LineForm.{LineForm}
+use Rattle.mp4_answers.specs.declared.commands.compare.LineForm.TheVariants as forms
 use Rattle.mp4_answers.specs.declared.commands.compare.Lines.{Lines}
 use Rattle.mp4_answers.specs.declared.commands.compare.Listing.{Listing}
 use Rattle.mp4_answers.specs.declared.commands.compare.Listing.TheVariants as listings
@@ -26,6 +30,7 @@ use Rattle.mp4_answers.specs.format.DifferenceObject.{difference_object, last_ob
 use Rattle.mp4_answers.specs.format.Headline.{DenotesNothing}
 use Rattle.mp4_answers.specs.format.LastLine.{last_line}
 use Rattle.mp4_answers.specs.format.Selected.{Shows}
+use Rattle.mp4_answers.specs.format.TimedLine.{timed_line}
 use Rattle.mp4_answers.specs.format.Steps.{FindsWithin, row_total, scaling_walks, telling_walks, walked_each}
 
 -- what is looked at of the first file, and of the second
@@ -78,20 +83,31 @@ AreEnough l p q (Some m) = Covers l m × (m.lead_ins ≡ l.lead_ins) × (left_of
     → (k : Without) → Covers l k → AreTimedAlike k m → left_of k p ≡ left_of k q
     → Covers m k)
 
--- a difference as a line or as an object
-abbrev pub difference_in : Syntax → Difference → List ℕ
-difference_in syntaxes.Text d = difference_line d
-difference_in syntaxes.Json d = difference_object d
+-- the form of lines in a syntax, where it isn't asked for decode times
+abbrev pub line_form : Syntax → LineForm
+line_form syntaxes.Text = forms.Text
+line_form syntaxes.Json = forms.Json
+
+-- a difference as a line or as an object, and when the sample is decoded that it is of
+abbrev pub difference_in : LineForm → Option DecodeTime → Difference → List ℕ
+difference_in forms.Text time d = difference_line d
+difference_in forms.Timed time d = timed_line time d
+difference_in forms.Json time d = difference_object time d
+
+-- those of a presentation and another one
+abbrev pub differences_in : LineForm → Presentation → List Difference → List ℕ
+differences_in form p ds =
+    flat_map (λ (d : Difference). difference_in form (decode_time p d.subject) d) ds
 
 -- and what is said of all
-abbrev pub last_in : Syntax → Bool → List Difference → Option Without → List ℕ
-last_in syntaxes.Text whole ds enough = last_line whole ds enough
-last_in syntaxes.Json whole ds enough = last_object whole ds enough
+abbrev pub last_in : LineForm → Bool → List Difference → Option Without → List ℕ
+last_in forms.Json whole ds enough = last_object whole ds enough
+last_in _ whole ds enough = last_line whole ds enough
 
 -- how two tracks lie beside each other, as a line or as an object
-abbrev pub alignment_in : Syntax → Alignment → List ℕ
-alignment_in syntaxes.Text a = alignment_line a
-alignment_in syntaxes.Json a = alignment_object a
+abbrev pub alignment_in : LineForm → Alignment → List ℕ
+alignment_in forms.Json a = alignment_object a
+alignment_in _ a = alignment_line a
 
 -- Where tracks are aligned, how each two lie beside each other of which not the same samples are
 -- left; else none.
@@ -99,24 +115,25 @@ abbrev pub AreToldAligned : Bool → Without → Presentation → Presentation �
 AreToldAligned true l p q found = AreAligned l 1 p.tracks q.tracks found
 AreToldAligned false l p q found = found ≡ []
 
--- how tracks lie beside each other, the first differences, as many as are asked for, and what is
--- said of all that are counted
-abbrev pub listing_text : Lines → List Alignment → List Difference → Option Without → List ℕ
-listing_text lines found ds enough = flat_map (alignment_in lines.syntax) found
-    ++ flat_map (difference_in lines.syntax) (take lines.limit (take most_counted ds))
-    ++ last_in lines.syntax (nat_le (length ds) most_counted) (take most_counted ds) enough
+-- how tracks lie beside each other, the first differences of a presentation and another one, as
+-- many as are asked for, and what is said of all that are counted
+abbrev pub listing_text : Lines → Presentation → List Alignment → List Difference → Option Without
+    → List ℕ
+listing_text lines p found ds enough = flat_map (alignment_in lines.form) found
+    ++ differences_in lines.form p (take lines.limit (take most_counted ds))
+    ++ last_in lines.form (nat_le (length ds) most_counted) (take most_counted ds) enough
 
 -- What is said of two presentations of which not the same is left: the first difference; or all of
 -- them, with the words that make the two the same. Without alignment what is listed are all
--- `differences`.
+-- `differences`. Decode times are those of the first presentation, whatever is left out.
 abbrev pub TellsOf : Listing → Without → Presentation → Presentation → List ℕ → Type 0
-TellsOf (listings.First syntax) l p q text = (first : Difference)
+TellsOf (listings.First form) l p q text = (first : Difference)
     × (slice_get (differences (left_of l p) (left_of l q)) 0 ≡ Some first)
-    × (text ≡ difference_in syntax first)
+    × (text ≡ difference_in form (decode_time p first.subject) first)
 TellsOf (listings.All lines) l p q text = (found : List Alignment)
     × AreToldAligned lines.aligned (words_told l) (told l.lead_ins p) (told l.lead_ins q) found
     × (enough : Option Without) × AreEnough l p q enough
-    × (text ≡ listing_text lines found
+    × (text ≡ listing_text lines p found
     (listed lines.aligned (left_of l p) (left_of l q)) enough)
 
 -- The text tells of what is looked at of the two files.
@@ -156,7 +173,7 @@ trying_walks = 2 * (2 + word_count)
 -- An opened file is walked over at most so many times: for the first difference until that is
 -- found; for all of them to list what differs, to align tracks, and to find words.
 abbrev pub opened_walks : Without → Listing → ℕ
-opened_walks l (listings.First syntax) = listing_walks l
+opened_walks l (listings.First form) = listing_walks l
 opened_walks l (listings.All lines) =
     listing_walks l + aligned_walks l lines.aligned + trying_walks
 

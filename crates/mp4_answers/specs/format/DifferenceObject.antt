@@ -10,6 +10,7 @@ use Rattle.mp4_content.specs.declared.comparing.differences.Field.{Field}
 use Rattle.mp4_content.specs.declared.comparing.differences.Field.TheVariants as fields
 use Rattle.mp4_content.specs.declared.comparing.differences.Value.{Value}
 use Rattle.mp4_content.specs.declared.comparing.differences.Value.TheVariants as values
+use Rattle.mp4_content.specs.declared.comparing.differences.DecodeTime.{DecodeTime}
 use Rattle.mp4_content.specs.declared.comparing.differences.Difference.{Difference}
 use Rattle.mp4_content.specs.declared.without.Word.{Word}
 use Rattle.mp4_content.specs.declared.without.Word.TheVariants as words
@@ -104,8 +105,21 @@ abbrev pub line_members : Difference → List ℕ
 line_members d = codes ",\"kind\":\"" ++ kind_name (kind_of_difference d)
     ++ codes "\",\"line\":\"" ++ escaped (difference_text d) ++ quote ++ of_member d.field
 
-abbrev pub difference_object : Difference → List ℕ
-difference_object d = value_members d ++ line_members d ++ codes "}" ++ line_feed
+-- a fraction: so many parts of a second over how many a second has, as the file has them
+abbrev pub fraction_member : DecodeTime → List ℕ
+fraction_member t = codes ",\"seconds\":\"" ++ decimal t.time ++ codes "/" ++ decimal t.timescale
+    ++ quote
+
+-- when the sample is decoded that it is of
+abbrev pub seconds_member : Option DecodeTime → List ℕ
+seconds_member None = []
+seconds_member (Some t) = fraction_member t
+
+abbrev pub end_members : Option DecodeTime → List ℕ
+end_members time = seconds_member time ++ codes "}" ++ line_feed
+
+abbrev pub difference_object : Option DecodeTime → Difference → List ℕ
+difference_object time d = value_members d ++ line_members d ++ end_members time
 
 -- ---- all of them
 

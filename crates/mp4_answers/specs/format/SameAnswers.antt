@@ -12,6 +12,7 @@ use Rattle.mp4_content.specs.format.LeadIns.{told}
 use Rattle.mp4_content.specs.format.LeadInsLaws.{KeepsBeginnings}
 use Rattle.mp4_answers.specs.declared.commands.compare.Asked.{Asked}
 use Rattle.mp4_answers.specs.declared.jobs.Form.{Form}
+use Rattle.mp4_answers.specs.declared.jobs.Form.TheVariants as forms
 use Rattle.mp4_answers.specs.declared.selection.Selection.{Selection}
 use Rattle.mp4_answers.specs.format.CompareHeadline.{IsVerdict, of_first, of_second}
 use Rattle.mp4_answers.specs.format.Headline.{HasNormalForm}
@@ -19,6 +20,7 @@ use Rattle.mp4_answers.specs.format.ReducedHeadline.{HasReducedForm, LeftFaultSt
 use Rattle.mp4_answers.specs.format.Selected.{Shows, alone}
 use Rattle.mp4_answers.specs.format.Told.{IsLeftInLimits, judge_told}
 use Rattle.mp4_answers.specs.format.FileTexts.{ShowsLine, ListsSamples, HasData}
+use Rattle.mp4_answers.specs.format.Texts.{Spot, sample_listing}
 
 -- Two files are told the same, without some things, exactly if the normal forms of what is left of
 -- them are the same bytes.
@@ -43,7 +45,7 @@ abbrev pub NormalFormDenotesTheSame : Type 0
 NormalFormDenotesTheSame = (file text : List ℕ) → AreBytes file → HasNormalForm file text
     → (p : Presentation) → Denotes file p ↔ Denotes text p
 
--- What is shown of a file, listed of it and extracted from it is what is shown, listed and
+-- What is shown of a file, listed of it in lines and extracted from it is what is shown, listed and
 -- extracted of its normal form.
 abbrev pub NormalFormShowsTheSame : Type 0
 NormalFormShowsTheSame = (file text : List ℕ) → AreBytes file → HasNormalForm file text
@@ -51,8 +53,15 @@ NormalFormShowsTheSame = (file text : List ℕ) → AreBytes file → HasNormalF
 
 abbrev pub NormalFormListsTheSame : Type 0
 NormalFormListsTheSame = (file text : List ℕ) → AreBytes file → HasNormalForm file text
-    → (id : ℕ) (form : Form) (lines : List ℕ)
+    → (id : ℕ) (form : Form) (lines : List ℕ) → (form ≡ forms.Json → ⊥)
     → ListsSamples file id form lines ↔ ListsSamples text id form lines
+
+-- As objects of JSON the same samples are listed, each where it lies.
+abbrev pub NormalFormListsTheSameSamples : Type 0
+NormalFormListsTheSameSamples = (file text : List ℕ) → AreBytes file → HasNormalForm file text
+    → (id : ℕ) (form : Form) (lines : List ℕ) → ListsSamples file id form lines
+    → (t : Track) × (own other : List Spot) × (lines ≡ sample_listing form t own)
+    × ListsSamples text id form (sample_listing form t other)
 
 abbrev pub NormalFormHasTheSameData : Type 0
 NormalFormHasTheSameData = (file text : List ℕ) → AreBytes file → HasNormalForm file text

@@ -46,6 +46,12 @@ members (m ∷ ms) = member m.0 m.1 (members ms)
 
 -- ---- samples
 
+-- where a sample lies: the place of its first byte in the file, and the number of its `moof` among
+-- those of the file, from 1; 0 for a sample of the tables (ISO/IEC 14496-12, 8.8.4)
+pub record Spot : Type 0 where
+  pub at : ℕ
+  pub fragment : ℕ
+
 -- number, decode time, composition time, duration, flags, description index, size
 abbrev pub fields_line : ℕ → ℕ → ℤ → ℕ → ℕ → ℕ → ℕ → List ℕ
 fields_line i time offset duration flags description size =
@@ -53,26 +59,28 @@ fields_line i time offset duration flags description size =
     ++ decimal duration ++ space
     ++ hex_digits 8 flags ++ space ++ decimal description ++ space ++ decimal size ++ line_feed
 
--- the same as one value; keys in order of their bytes
-abbrev pub fields_value : ℕ → ℕ → ℤ → ℕ → ℕ → ℕ → ℕ → Data
-fields_value i time offset duration flags description size = object (members (
-    (codes "composition_time", int_value (pos time +ℤ offset))
+-- the same and where it lies as one value; keys in order of their bytes
+abbrev pub fields_value : ℕ → ℕ → ℤ → ℕ → ℕ → ℕ → ℕ → Spot → Data
+fields_value i time offset duration flags description size spot = object (members (
+    (codes "at", nat_value spot.at)
+    ∷ (codes "composition_time", int_value (pos time +ℤ offset))
     ∷ (codes "decode_time", nat_value time)
     ∷ (codes "description", nat_value description)
     ∷ (codes "duration", nat_value duration)
     ∷ (codes "flags", nat_value flags)
+    ∷ (codes "fragment", nat_value spot.fragment)
     ∷ (codes "number", nat_value i)
     ∷ (codes "size", nat_value size)
     ∷ []))
 
 -- the line of such fields in a form
-abbrev pub form_line : Form → ℕ → ℕ → ℤ → ℕ → ℕ → ℕ → ℕ → List ℕ
-form_line forms.Plain i time offset duration flags description size =
+abbrev pub form_line : Form → ℕ → ℕ → ℤ → ℕ → ℕ → ℕ → ℕ → Spot → List ℕ
+form_line forms.Plain i time offset duration flags description size spot =
     fields_line i time offset duration flags description size
-form_line forms.Named i time offset duration flags description size =
+form_line forms.Named i time offset duration flags description size spot =
     fields_line i time offset duration flags description size
-form_line forms.Json i time offset duration flags description size =
-    compact_text (fields_value i time offset duration flags description size) ++ line_feed
+form_line forms.Json i time offset duration flags description size spot =
+    compact_text (fields_value i time offset duration flags description size spot) ++ line_feed
 
 -- what stands before the lines: the names of the columns, where these are asked for
 abbrev pub listing_head : Form → List ℕ
@@ -81,34 +89,57 @@ listing_head forms.Named =
     codes "number decode_time composition_time duration flags description size" ++ line_feed
 listing_head forms.Json = []
 
--- the line of a sample with this number and decode time
-abbrev pub sample_line : Form → ℕ → ℕ → Sample → List ℕ
-sample_line form i time s =
-    form_line form i time s.offset s.duration s.flags s.description (length s.bytes)
+-- the line of a sample with this number and decode time, which lies there
+abbrev pub sample_line : Form → ℕ → ℕ → Sample → Spot → List ℕ
+sample_line form i time s spot =
+    form_line form i time s.offset s.duration s.flags s.description (length s.bytes) spot
 
-abbrev pub sample_lines_from : Form → ℕ → ℕ → List Sample → List ℕ
-sample_lines_from form i time [] = []
-sample_lines_from form i time (s ∷ samples) = sample_line form i time s
-    ++ sample_lines_from form (i + 1) (time + s.duration) samples
+-- places and numbers together, as many as there are of both
+abbrev pub spots : List ℕ → List ℕ → List Spot
+spots (at ∷ ats) (fragment ∷ fragments) =
+    record { at = at; fragment = fragment } ∷ spots ats fragments
+spots _ _ = []
 
--- a line for each sample of a track
-abbrev pub sample_lines : Form → Track → List ℕ
-sample_lines form t = sample_lines_from form 1 t.start t.samples
+-- the first of some, of which there is one for each sample
+abbrev pub first_spot : List Spot → Spot
+first_spot [] = record { at = 0; fragment = 0 }
+first_spot (spot ∷ more) = spot
+
+abbrev pub sample_lines_from : Form → ℕ → ℕ → List Sample → List Spot → List ℕ
+sample_lines_from form i time [] spots = []
+sample_lines_from form i time (s ∷ samples) spots = sample_line form i time s (first_spot spots)
+    ++ sample_lines_from form (i + 1) (time + s.duration) samples (drop 1 spots)
+
+-- a line for each sample of a track, which lie there
+abbrev pub sample_lines : Form → Track → List Spot → List ℕ
+sample_lines form t spots = sample_lines_from form 1 t.start t.samples spots
 
 -- all that is listed of a track
-abbrev pub sample_listing : Form → Track → List ℕ
-sample_listing form t = listing_head form ++ sample_lines form t
+abbrev pub sample_listing : Form → Track → List Spot → List ℕ
+sample_listing form t spots = listing_head form ++ sample_lines form t spots
 
--- the line of a sample that is handed out with its decode time
-abbrev pub sample_at_line : Form → ℕ → SampleAt → List ℕ
-sample_at_line form i s =
+-- the line of a sample that is handed out with its decode time, in a `moof` with this number
+abbrev pub sample_at_line : Form → ℕ → ℕ → SampleAt → List ℕ
+sample_at_line form i fragment s =
     form_line form i s.dts s.cto s.duration s.flags s.description s.size
+    (record { at = s.at; fragment = fragment })
 
--- the lines of such samples, numbered on
-abbrev pub sample_at_lines : Form → ℕ → List SampleAt → List ℕ
-sample_at_lines form i [] = []
-sample_at_lines form i (s ∷ samples) = sample_at_line form i s
-    ++ sample_at_lines form (i + 1) samples
+-- the lines of such samples, numbered on, of one `moof`
+abbrev pub sample_at_lines : Form → ℕ → ℕ → List SampleAt → List ℕ
+sample_at_lines form i fragment [] = []
+sample_at_lines form i fragment (s ∷ samples) = sample_at_line form i fragment s
+    ++ sample_at_lines form (i + 1) fragment samples
+
+-- the same of samples of `moof`s with these numbers
+abbrev pub first_number : List ℕ → ℕ
+first_number [] = 0
+first_number (n ∷ more) = n
+
+abbrev pub lines_in_fragments : Form → ℕ → List ℕ → List SampleAt → List ℕ
+lines_in_fragments form i fragments [] = []
+lines_in_fragments form i fragments (s ∷ samples) =
+    sample_at_line form i (first_number fragments) s
+    ++ lines_in_fragments form (i + 1) (drop 1 fragments) samples
 
 -- a track's sample bytes, one after the other
 abbrev pub sample_data : Track → List ℕ

@@ -1,16 +1,20 @@
 -- What there is to say of two files that are compared, and why they are not. `Took` says of bytes
 -- that they were put, the numbers are counts of failed reads and of failed puts.
-use Rattle.std.specs.Prelude.{◌≡◌, ◌⊎◌, ◌+◌, ◌*◌, ◌<◌, ◌≤◌, ℕ, List, [], ◌∷◌, ◌++◌, length, take, flat_map, slice_get, Option, None, Some, option_map, Bool, true, false, if◌then◌else◌, IsTrue}
+use Rattle.std.specs.Prelude.{◌≡◌, ◌⊎◌, ◌+◌, ◌*◌, ◌<◌, ◌≤◌, ℕ, nat_lt, ◌&&◌, List, [], ◌∷◌, ◌++◌, length, take, drop, flat_map, slice_get, Option, None, Some, option_map, Bool, true, false, if◌then◌else◌, IsTrue}
+use Rattle.std.specs.Global.{Vec}
+use Rattle.std.specs.Vec.{vec_len, vec_capacity}
 use Rattle.mp4_store.specs.words.Device.{HasRisen, TakesPrefix}
 use Rattle.mp4_boxes.specs.declared.refusal.Refusal.{Refusal}
 use Rattle.mp4_boxes.specs.declared.refusal.Refusal.TheVariants as refusals
 use Rattle.mp4_content.specs.format.Alignment.{listed}
 use Rattle.mp4_content.specs.format.Comparison.{differences}
+use Rattle.mp4_content.specs.format.DecodeTimes.{decode_time}
 use Rattle.mp4_content.specs.format.Remaining.{remaining}
 use Rattle.mp4_present.specs.format.Denotes.{FileTree}
 use Rattle.mp4_present.specs.format.Presentation.{Presentation}
 use Rattle.mp4_present.specs.words.WalkSteps.{walks_steps}
 use Rattle.mp4_content.specs.declared.aligning.Alignment.{Alignment}
+use Rattle.mp4_content.specs.declared.comparing.differences.DecodeTime.{DecodeTime}
 use Rattle.mp4_content.specs.declared.comparing.differences.Difference.{Difference}
 use Rattle.mp4_content.specs.declared.without.Word.{Word}
 use Rattle.mp4_content.specs.declared.without.Without.{Without}
@@ -18,16 +22,21 @@ use Rattle.mp4_content.specs.format.CoveringLaws.{Covers}
 use Rattle.mp4_answers.specs.format.CompareHeadline.{AreToldAligned, alignment_in, difference_in, last_in, listing_text, most_counted}
 use Rattle.mp4_answers.specs.format.DifferenceObject.{last_object}
 use Rattle.mp4_answers.specs.words.SingleWords.{everything, less_word, single_words}
+use Rattle.mp4_answers.specs.declared.commands.compare.LineForm.{LineForm}
+use Rattle.mp4_answers.specs.declared.commands.compare.LineForm.TheVariants as forms
 use Rattle.mp4_answers.specs.declared.commands.compare.Lines.{Lines}
 use Rattle.mp4_answers.specs.declared.commands.compare.Listing.{Listing}
 use Rattle.mp4_answers.specs.declared.commands.compare.Listing.TheVariants as listings
 use Rattle.mp4_answers.specs.declared.commands.compare.Side.{Side}
 use Rattle.mp4_answers.specs.declared.commands.compare.Side.TheVariants as sides
 use Rattle.mp4_answers.specs.declared.commands.compare.Failure.{Failure}
-use Rattle.mp4_answers.specs.declared.jobs.Syntax.{Syntax}
-use Rattle.mp4_answers.specs.declared.jobs.Syntax.TheVariants as syntaxes
 
 -- ---- what there is to say
+
+-- there is room for one more difference, and for its decode time
+abbrev pub has_room : Vec Difference → Vec (Option DecodeTime) → Bool
+has_room all times = nat_lt (vec_len all) (vec_capacity all)
+    && nat_lt (vec_len times) (vec_capacity times)
 
 -- there is something to say exactly where something differs
 abbrev pub IsSaid : {A : Type 0} → Option A → List Difference → Type 0
@@ -39,25 +48,37 @@ abbrev pub ListsFront : List Difference → List Difference → Type 0
 ListsFront listed differences = (listed ≡ differences)
     ⊎ ((most_counted < length listed) × (n : ℕ) × (listed ≡ take n differences))
 
--- the lines of these were added
-abbrev pub AddsLines : Syntax → List Difference → List ℕ → List ℕ → Type 0
-AddsLines syntax ds old new = new ≡ old ++ flat_map (difference_in syntax) ds
+-- the line of a difference was added
+abbrev pub AddsLine : LineForm → Option DecodeTime → Difference → List ℕ → List ℕ → Type 0
+AddsLine form time d old new = new ≡ old ++ difference_in form time d
 
 -- the last line was added
-abbrev pub AddsLast : Syntax → Bool → List Difference → Option Without → List ℕ → List ℕ → Type 0
-AddsLast syntax whole ds enough old new = new ≡ old ++ last_in syntax whole ds enough
+abbrev pub AddsLast : LineForm → Bool → List Difference → Option Without → List ℕ → List ℕ → Type 0
+AddsLast form whole ds enough old new = new ≡ old ++ last_in form whole ds enough
 
 -- the lines of these were added
-abbrev pub AddsAligned : Syntax → List Alignment → List ℕ → List ℕ → Type 0
-AddsAligned syntax found old new = new ≡ old ++ flat_map (alignment_in syntax) found
+abbrev pub AddsAligned : LineForm → List Alignment → List ℕ → List ℕ → Type 0
+AddsAligned form found old new = new ≡ old ++ flat_map (alignment_in form) found
 
--- the lines of how tracks lie beside each other, those of some first differences, and the last one,
--- which says whether these are all
-abbrev pub IsCounted : Lines → List Alignment → List Difference → Bool → Option Without → List ℕ
-    → Type 0
-IsCounted lines found ds whole enough text = text ≡ flat_map (alignment_in lines.syntax) found
-    ++ flat_map (difference_in lines.syntax) (take lines.limit ds)
-    ++ last_in lines.syntax whole ds enough
+-- a decode time that is there
+abbrev pub if_time : Option (Option DecodeTime) → Option DecodeTime
+if_time None = None
+if_time (Some time) = time
+
+-- the lines of differences, with decode times one to one
+abbrev pub lines_with : LineForm → List (Option DecodeTime) → List Difference → List ℕ
+lines_with form times [] = []
+lines_with form times (d ∷ ds) = difference_in form (if_time (slice_get times 0)) d
+    ++ lines_with form (drop 1 times) ds
+
+-- the lines of how tracks lie beside each other, those of some first differences, with decode times
+-- one to one, and the last one, which says whether these are all
+abbrev pub IsCounted : Lines → List Alignment → List (Option DecodeTime) → List Difference → Bool
+    → Option Without → List ℕ → Type 0
+IsCounted lines found times ds whole enough text =
+    text ≡ flat_map (alignment_in lines.form) found
+    ++ lines_with lines.form times (take lines.limit ds)
+    ++ last_in lines.form whole ds enough
 
 -- The differences are given for whatever is left out. Whether there are none without this.
 abbrev pub IsSameWith : Without → (Without → List Difference) → Bool → Type 0
@@ -98,14 +119,14 @@ as_asked asked l = record l {
 
 -- what is said where something differs, of words that are asked for as the first say
 abbrev pub IsSaidOf : Listing → Without → Without → Presentation → Presentation → List ℕ → Type 0
-IsSaidOf (listings.First syntax) asked l p q text = (first : Difference)
+IsSaidOf (listings.First form) asked l p q text = (first : Difference)
     × (slice_get (differences (remaining l p) (remaining l q)) 0 ≡ Some first)
-    × (text ≡ difference_in syntax first)
+    × (text ≡ difference_in form (decode_time p first.subject) first)
 IsSaidOf (listings.All lines) asked l p q text = (found : List Alignment)
     × AreToldAligned lines.aligned l p q found
     × (enough : Option Without)
     × IsEnough l (λ m. differences (remaining m p) (remaining m q)) enough
-    × (text ≡ listing_text lines found
+    × (text ≡ listing_text lines p found
     (listed lines.aligned (remaining l p) (remaining l q)) (option_map (as_asked asked) enough))
 
 -- the same of what was found
@@ -123,13 +144,13 @@ abbrev pub WalksTimes : ℕ → FileTree → FileTree → ℕ → ℕ → Type 0
 WalksTimes times tree other old new = new ≤ old + times * (walks_steps tree + walks_steps other)
 
 -- Nothing is said of files that are the same, but where all differences are listed as JSON.
-abbrev pub is_text : Syntax → Bool
-is_text syntaxes.Text = true
-is_text syntaxes.Json = false
+abbrev pub is_text : LineForm → Bool
+is_text forms.Json = false
+is_text _ = true
 
 abbrev pub is_silent : Listing → Bool
-is_silent (listings.First syntax) = true
-is_silent (listings.All lines) = is_text lines.syntax
+is_silent (listings.First form) = true
+is_silent (listings.All lines) = is_text lines.form
 
 -- some text was put
 abbrev pub PutsSome : (List ℕ → Type 0) → Type 0

@@ -1,12 +1,14 @@
 //! Two files, compared by what they say.
-ghost use Rattle.std.specs.Prelude.{◌≡◌, ◌&&◌, not, ◌*◌, ◌<◌, ◌≤◌, [], ◌∷◌, length, option_map, take, Some, true, false, IfOk, IfErr, IfSome, OnOk};
+ghost use Rattle.std.specs.Prelude.{◌≡◌, ◌&&◌, not, ◌*◌, ◌<◌, ◌≤◌, [], ◌∷◌, ◌++◌, length, option_map, slice_get, take, Some, true, false, IfOk, IfErr, IfSome, OnOk};
 ghost use Rattle.mp4_answers.specs.declared.commands.compare.Listing.TheVariants.{All};
 ghost use Rattle.mp4_answers.specs.format.Steps.{TakesEachOfBoth};
 ghost use Rattle.mp4_answers.specs.format.CompareHeadline.{AreToldAligned, IsVerdict, IsTold, aligned_walks, difference_in, listing_walks, opened_walks, PutsSuch, ComparesWithin, FindsBothWithin, trying_walks};
 ghost use Rattle.mp4_answers.specs.format.DifferenceObject.{last_object};
-ghost use Rattle.mp4_answers.specs.words.Compares.{as_asked, side_of, says_nothing, is_silent, AddsAligned, AddsLines, AddsLast, IsCounted, AreSome, IsEnough, IsTried, IsShrunk, IsSameWith, IsFoundOf, IsSaid, ListsFront, PutsAnswer, PutsFound, PutsSame, WalksTimes, RefusesAnswer};
+ghost use Rattle.mp4_answers.specs.words.Compares.{as_asked, side_of, says_nothing, is_silent, if_time, lines_with, AddsAligned, AddsLine, AddsLast, IsCounted, AreSome, IsEnough, IsTried, IsShrunk, IsSameWith, IsFoundOf, IsSaid, ListsFront, PutsAnswer, PutsFound, PutsSame, WalksTimes, RefusesAnswer};
+ghost use Rattle.mp4_present.specs.format.Denotes.{presentation_of};
 ghost use Rattle.mp4_present.specs.words.StoresRead.{IsUnchanged, WhereBothHonest};
 ghost use Rattle.mp4_answers.specs.words.StoreAndSink.{NoPutFails};
+ghost use Rattle.mp4_content.specs.format.DecodeTimes.{decode_times};
 ghost use Rattle.mp4_content.specs.format.Words.{has};
 ghost use Rattle.mp4_content.specs.words.Compared.{OfListed, WhereOpenedBoth};
 ghost use Rattle.mp4_answers.specs.words.TwoFiles.{ComparesBoth, OfBoth, OfDenoted, ReadsBoth};
@@ -19,29 +21,56 @@ use crate::text::aligned_lines::{say_alignment, say_alignment_object};
 use crate::text::difference_json::{say_difference_object, say_last_object};
 use crate::text::difference_lines::say_difference;
 use crate::text::tally::say_last;
+use crate::text::timed_lines::say_timed;
 use crate::without_words::{TAKEN, as_asked, everything, less_word};
 use mp4_boxes::{Refusal, Steps};
 use mp4_content::{
-    Alignment, Difference, Differences, Movies, Without, Word, align, compare, compare_listed,
+    Alignment, DecodeTime, Difference, Differences, Found, Movies, Without, Word, align, compare,
+    compare_listed,
 };
 use mp4_store::{Sink, Store};
 use std::alloc::{AllocError, Global};
 use std::sync::ledger::Ledger;
 
-/// How many differences are listed at most, in which syntax, and whether tracks whose samples are
-/// not the same are aligned: it is told first how they lie beside each other, and samples are
-/// listed only of tracks that have as many.
+/// How a difference is told of: as a line; as one with when the sample is decoded that it is of; or
+/// as an object of JSON, which has that too. Decode times are those of the first file, whatever is
+/// left out.
+#[derive(Clone, Copy)]
+pub enum LineForm {
+    Text,
+    Timed,
+    Json,
+}
+
+impl LineForm {
+    ghost use Rattle.std.specs.Prelude.{◌≡◌};
+    ghost use Rattle.mp4_answers.specs.format.CompareHeadline.{line_form};
+
+    /// That of a syntax, where it isn't asked for decode times.
+    pub fn of(syntax: Syntax) -> LineForm
+        ensures { result ≡ line_form syntax }
+    {
+        match syntax {
+            Syntax::Text => LineForm::Text,
+            Syntax::Json => LineForm::Json,
+        }
+    }
+}
+
+/// How many differences are listed at most, in which form, and whether tracks whose samples are not
+/// the same are aligned: it is told first how they lie beside each other, and samples are listed
+/// only of tracks that have as many.
 #[derive(Clone, Copy)]
 pub struct Lines {
     pub limit: u32,
-    pub syntax: Syntax,
+    pub form: LineForm,
     pub aligned: bool,
 }
 
 /// How a comparison is told of: by the first difference alone, or by so many and their counts.
 #[derive(Clone, Copy)]
 pub enum Listing {
-    First(Syntax),
+    First(LineForm),
     All(Lines),
 }
 
@@ -117,23 +146,27 @@ fn failed_together(refusal: Refusal) -> Failure
 /// The most differences that are counted. One more is held, to know whether there are more.
 const MOST: usize = 1 << 20;
 
-// Differences, as many as there is room for.
+// Differences, as many as there is room for, and the decode times that came along with them.
 #[derive(Drop)]
 struct Listed {
     all: Vec<Difference>,
+    times: Vec<Option<DecodeTime>>,
 }
 
 impl Listed {
-    ghost use Rattle.std.specs.Prelude.{◌≡◌, nat_eq, nat_lt, length, IfOk, []};
-    ghost use Rattle.std.specs.Vec.{vec_len, vec_capacity};
+    ghost use Rattle.std.specs.Prelude.{◌≡◌, nat_eq, length, IfOk, []};
+    ghost use Rattle.mp4_answers.specs.words.Compares.{has_room};
 
     // None yet.
     fn new(alloc: Global) -> Result<Listed, AllocError>
-        ensures { IfOk result (λ listed. listed.all.items ≡ []) }
+        ensures all { IfOk result (λ listed. listed.all.items ≡ []) }
+        ensures times { IfOk result (λ listed. listed.times.items ≡ []) }
     {
         let mut all = Vec::new(alloc);
         all.reserve(1)?;
-        Ok(Listed { all })
+        let mut times = Vec::new(alloc);
+        times.reserve(1)?;
+        Ok(Listed { all, times })
     }
 
     // Whether none was taken.
@@ -145,87 +178,95 @@ impl Listed {
 
     // Whether there is room for one more.
     fn has_room(&self) -> bool
-        ensures { result ≡ nat_lt (vec_len self.now.all) (vec_capacity self.now.all) }
+        ensures { result ≡ has_room self.now.all self.now.times }
     {
-        self.all.len() < self.all.capacity()
+        self.all.len() < self.all.capacity() && self.times.len() < self.times.capacity()
     }
 }
 
 impl Differences for Listed {
-    ghost use Rattle.std.specs.Prelude.{nat_lt};
-    ghost use Rattle.std.specs.Vec.{vec_len, vec_capacity};
+    ghost use Rattle.mp4_answers.specs.words.Compares.{has_room};
 
     ghost taken = { λ s. s.all.items };
 
-    ghost is_open = { λ s. nat_lt (vec_len s.all) (vec_capacity s.all) };
+    ghost times = { λ s. s.times.items };
 
-    fn take(&mut self, difference: Difference) -> bool {
+    ghost is_open = { λ s. has_room s.all s.times };
+
+    fn take(&mut self, difference: Difference, time: Option<DecodeTime>) -> bool {
         let _ = self.all.push(difference);
+        let _ = self.times.push(time);
         if self.all.len() <= MOST {
             let _ = self.all.reserve(1);
+            let _ = self.times.reserve(1);
         }
-        self.all.len() < self.all.capacity()
+        self.has_room()
     }
 }
 
-// Adds a difference in this syntax.
-fn say_in(text: &mut Vec<u8>, difference: Difference, syntax: Syntax) -> Result<(), AllocError>
-    ensures lines { OnOk result
-        (AddsLines syntax (difference ∷ []) text.old.items text.new.items) }
+// Adds a difference in this form.
+fn say_in(
+    text: &mut Vec<u8>,
+    difference: Difference,
+    time: Option<DecodeTime>,
+    form: LineForm,
+) -> Result<(), AllocError>
+    ensures line { OnOk result (AddsLine form time difference text.old.items text.new.items) }
     ensures some { OnOk result (0 < length text.new.items) }
 {
-    match syntax {
-        Syntax::Text => say_difference(text, difference),
-        Syntax::Json => say_difference_object(text, difference),
+    match form {
+        LineForm::Text => say_difference(text, difference),
+        LineForm::Timed => say_timed(text, difference, time),
+        LineForm::Json => say_difference_object(text, difference, time),
     }
 }
 
-// Adds how two tracks lie beside each other, in this syntax.
-fn say_beside(text: &mut Vec<u8>, alignment: Alignment, syntax: Syntax) -> Result<(), AllocError>
-    ensures { OnOk result
-        (AddsAligned syntax (alignment ∷ []) text.old.items text.new.items) }
+// Adds how two tracks lie beside each other, in this form.
+fn say_beside(text: &mut Vec<u8>, alignment: Alignment, form: LineForm) -> Result<(), AllocError>
+    ensures { OnOk result (AddsAligned form (alignment ∷ []) text.old.items text.new.items) }
 {
-    match syntax {
-        Syntax::Text => say_alignment(text, alignment),
-        Syntax::Json => say_alignment_object(text, alignment),
+    match form {
+        LineForm::Json => say_alignment_object(text, alignment),
+        _ => say_alignment(text, alignment),
     }
 }
 
-// Adds how tracks lie beside each other, in this syntax.
-fn say_aligned(text: &mut Vec<u8>, aligned: &[Alignment], syntax: Syntax) -> Result<(), AllocError>
-    ensures { OnOk result (AddsAligned syntax aligned.now text.old.items text.new.items) }
+// Adds how tracks lie beside each other, in this form.
+fn say_aligned(text: &mut Vec<u8>, aligned: &[Alignment], form: LineForm) -> Result<(), AllocError>
+    ensures { OnOk result (AddsAligned form aligned.now text.old.items text.new.items) }
 {
     for alignment in aligned {
-        say_beside(text, *alignment, syntax)?;
+        say_beside(text, *alignment, form)?;
     }
     Ok(())
 }
 
-// Adds the line that ends a list, in this syntax.
+// Adds the line that ends a list, in this form.
 fn say_last_in(
     text: &mut Vec<u8>,
     all: &[Difference],
     is_whole: bool,
     enough: Option<Without>,
-    syntax: Syntax,
+    form: LineForm,
 ) -> Result<(), AllocError>
     ensures line { OnOk result
-        (AddsLast syntax is_whole all.now enough text.old.items text.new.items) }
+        (AddsLast form is_whole all.now enough text.old.items text.new.items) }
     ensures some { OnOk result (0 < length text.new.items) }
 {
-    match syntax {
-        Syntax::Text => say_last(text, all, is_whole, enough),
-        Syntax::Json => say_last_object(text, all, is_whole, enough),
+    match form {
+        LineForm::Json => say_last_object(text, all, is_whole, enough),
+        _ => say_last(text, all, is_whole, enough),
     }
 }
 
 // The text of a first difference.
-fn first_text(alloc: Global, difference: Difference, syntax: Syntax) -> Result<Vec<u8>, AllocError>
-    ensures line { IfOk result (λ text. text.items ≡ difference_in syntax difference) }
+fn first_text(alloc: Global, found: Found, form: LineForm) -> Result<Vec<u8>, AllocError>
+    ensures line { IfOk result
+        (λ text. text.items ≡ difference_in form found.time found.difference) }
     ensures some { IfOk result (λ text. 0 < length text.items) }
 {
     let mut text = Vec::new(alloc);
-    say_in(&mut text, difference, syntax)?;
+    say_in(&mut text, found.difference, found.time, form)?;
     Ok(text)
 }
 
@@ -236,26 +277,59 @@ fn first_of(all: &[Difference], most: usize) -> &[Difference]
     &all[..all.len().min(most)]
 }
 
+// Differences, and the decode times that came along with them.
+#[derive(Clone, Copy)]
+struct Timed<'a> {
+    all: &'a [Difference],
+    times: &'a [Option<DecodeTime>],
+}
+
+// The decode time at a place; none behind the last.
+fn time_at(times: &[Option<DecodeTime>], place: usize) -> Option<DecodeTime>
+    ensures { result ≡ if_time (slice_get times.now place) }
+{
+    if place < times.len() {
+        times[place]
+    } else {
+        None
+    }
+}
+
+// Adds the first of some differences, so many or all.
+fn say_first(
+    text: &mut Vec<u8>,
+    timed: Timed,
+    most: usize,
+    form: LineForm,
+) -> Result<(), AllocError>
+    ensures { OnOk result (text.new.items ≡ text.old.items
+        ++ lines_with form timed.entry.times.now (take most timed.entry.all.now)) }
+{
+    let first = first_of(timed.all, most);
+    for k in 0..first.len() {
+        say_in(text, first[k], time_at(timed.times, k), form)?;
+    }
+    Ok(())
+}
+
 // The text of how tracks lie beside each other, of the first of some differences, and of the counts
 // of all.
 fn listed_text(
     alloc: Global,
     aligned: &[Alignment],
-    all: &[Difference],
+    timed: Timed,
     lines: Lines,
     is_whole: bool,
     enough: Option<Without>,
 ) -> Result<Vec<u8>, AllocError>
-    ensures list { IfOk result (λ text.
-        IsCounted lines aligned.now all.now is_whole enough text.items) }
+    ensures list { IfOk result (λ text. IsCounted lines aligned.now timed.entry.times.now
+        timed.entry.all.now is_whole enough text.items) }
     ensures some { IfOk result (λ text. 0 < length text.items) }
 {
     let mut text = Vec::new(alloc);
-    say_aligned(&mut text, aligned, lines.syntax)?;
-    for difference in first_of(all, lines.limit as usize) {
-        say_in(&mut text, *difference, lines.syntax)?;
-    }
-    say_last_in(&mut text, all, is_whole, enough, lines.syntax)?;
+    say_aligned(&mut text, aligned, lines.form)?;
+    say_first(&mut text, timed, lines.limit as usize, lines.form)?;
+    say_last_in(&mut text, timed.all, is_whole, enough, lines.form)?;
     Ok(text)
 }
 
@@ -273,7 +347,7 @@ fn same_text(
     match listing {
         Listing::All(
             Lines {
-                syntax: Syntax::Json,
+                form: LineForm::Json,
                 ..
             },
         ) => {
@@ -299,6 +373,10 @@ fn all_of<S: Store, T: Store, L: Ledger, M: Ledger>(
     ensures all { IfOk result
         (λ found. OfListed S.Store left.old movies.now.left T.Store right.old movies.now.right
         aligned leaving (ListsFront found.all.items)) }
+    ensures timed { IfOk result (λ found. WhereOpenedBoth S.Store left.old movies.now.left
+        T.Store right.old movies.now.right
+        (λ tree other. found.times.items
+        ≡ decode_times (presentation_of (S.file left.old) tree) found.all.items)) }
     ensures opened { WhereOpenedBoth S.Store left.old movies.now.left
         T.Store right.old movies.now.right
         (λ tree other. IsUnchanged result
@@ -561,7 +639,11 @@ fn all_text<S: Store, T: Store, L: Ledger, M: Ledger>(
     let found = alignments_of(alloc, files, left, right, lines.aligned, steps)?;
     let words = enough_for(alloc, files, left, right, all, steps)?;
     let enough = enough_asked(files.asked, words);
-    Ok(Some(listed_text(alloc, found.as_slice(), all, lines, is_whole, enough)?))
+    let timed = Timed {
+        all,
+        times: listed.times.as_slice(),
+    };
+    Ok(Some(listed_text(alloc, found.as_slice(), timed, lines, is_whole, enough)?))
 }
 
 // Compares two opened files, and gives what there is to say; nothing where they are the same.
@@ -594,9 +676,9 @@ fn text_of<S: Store, T: Store, L: Ledger, M: Ledger>(
 {
     let (movies, leaving) = (&files.movies, files.given);
     match listing {
-        Listing::First(syntax) => match compare(alloc, movies, left, right, leaving, steps)? {
+        Listing::First(form) => match compare(alloc, movies, left, right, leaving, steps)? {
             None => Ok(None),
-            Some(difference) => Ok(Some(first_text(alloc, difference, syntax)?)),
+            Some(found) => Ok(Some(first_text(alloc, found, form)?)),
         },
         Listing::All(lines) => all_text(alloc, files, left, right, lines, steps),
     }

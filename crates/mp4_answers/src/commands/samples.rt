@@ -1,17 +1,17 @@
 //! The samples of a track, a line each.
-ghost use Rattle.std.specs.Prelude.{◌≡◌, ◌+◌, ◌≤◌, OnOk};
+ghost use Rattle.std.specs.Prelude.{ℕ, ◌≡◌, ◌+◌, ◌≤◌, OnOk};
 ghost use Rattle.mp4_present.specs.words.InHand.{left_in_hand};
 ghost use Rattle.mp4_present.specs.words.Movies.{IsWalkOf};
 ghost use Rattle.mp4_present.specs.words.Carried.{RefusesCarry};
 ghost use Rattle.mp4_present.specs.words.TrackWalks.{WhereMayTake};
-ghost use Rattle.mp4_answers.specs.format.Texts.{sample_at_lines};
+ghost use Rattle.mp4_answers.specs.format.Texts.{lines_in_fragments};
 ghost use Rattle.mp4_answers.specs.format.Steps.{WalksWithin, FindsWithin, TakesEach, OnJudged};
 ghost use Rattle.mp4_answers.specs.format.Answers.{Listed};
 ghost use Rattle.mp4_answers.specs.format.Run.{KeepsFile, run_of};
 ghost use Rattle.mp4_present.specs.words.HandCarried.{StaysBefore, OfHand, HandWork, RefusedByBoth};
 ghost use Rattle.mp4_present.specs.words.StoresRead.{OnlyReads, WhereHonest};
 ghost use Rattle.mp4_answers.specs.words.StoreAndSink.{NoPutFails, PutsOrFails};
-ghost use Rattle.mp4_answers.specs.words.ListedWalks.{PutsAll, PutsLines, WhereFewCome};
+ghost use Rattle.mp4_answers.specs.words.ListedWalks.{IsBegun, IsFragmentOf, PutsAll, PutsLines, WhereFewCome};
 
 use crate::commands::forms::head_of;
 use crate::commands::perform::perform_blank;
@@ -47,17 +47,25 @@ fn put_hand<K: Sink, L: Ledger, M: Ledger>(
     requires { IsWalkOf movie.now walk.old }
     ensures walk { OnOk result (StaysBefore movie.now walk.old walk.new) }
     ensures form { text.new.form ≡ text.old.form }
-    ensures lines { OfHand movie.now walk.old (λ hand. PutsLines K.Sink sink.old sink.new
-        text.old.carrier text.new.carrier text.old.form number.old number.new
-        (left_in_hand hand) result) }
+    ensures lines { (fragment : ℕ) × IsFragmentOf movie.now walk.old fragment
+        × OfHand movie.now walk.old (λ hand. PutsLines K.Sink sink.old sink.new text.old.carrier
+        text.new.carrier text.old.form fragment number.old number.new (left_in_hand hand) result) }
     ensures puts { PutsOrFails K.Sink sink.old sink.new result }
     ensures grows { steps.old.passed ≤ steps.new.passed }
     ensures work { HandWork movie.now walk.old walk.new result steps.old.passed steps.new.passed }
     ensures looks { steps.new.looks ≡ steps.old.looks }
 {
+    let fragment = walk.fragment(movie);
     let place = {
         let mut hand = walk.in_hand(movie);
-        put_lines(text.form, &mut hand, number, &mut text.carrier, sink)?;
+        put_lines(
+            text.form,
+            fragment,
+            &mut hand,
+            number,
+            &mut text.carrier,
+            sink,
+        )?;
         hand.place()
     };
     walk.keep(place, steps);
@@ -74,12 +82,13 @@ fn put_walk<S: Store, K: Sink, L: Ledger, M: Ledger>(
     sink: &mut K,
     steps: &mut Steps<L, M>,
 ) -> Result<(), Refusal>
-    requires { IsWalkOf movie.now walk.old }
+    requires walk { IsWalkOf movie.now walk.old }
+    requires begun { IsBegun walk.old }
     ensures store { OnlyReads S.Store store.old store.new result }
     ensures puts { NoPutFails K.Sink sink.old sink.new result }
-    ensures lines { WhereFewCome S.Store store.old movie.now walk.old (λ samples. PutsAll
-        K.Sink sink.old sink.new text.old.carrier (sample_at_lines text.old.form 1 samples)
-        result) }
+    ensures lines { WhereFewCome S.Store store.old movie.now walk.old (λ fragments samples.
+        PutsAll K.Sink sink.old sink.new text.old.carrier
+        (lines_in_fragments text.old.form 1 fragments samples) result) }
     ensures refusal { RefusedByBoth S.Store store.old store.new K.Sink sink.old sink.new result
         RefusesCarry }
     ensures grows { steps.old.passed ≤ steps.new.passed }
@@ -125,8 +134,9 @@ pub fn samples_counted<S: Store, K: Sink, L: Ledger, M: Ledger>(
 }
 
 /// Puts a line for each sample of the track with this ID: number, decode time, composition time,
-/// duration, flags, description index, size. The whole file is judged, and all memory is taken,
-/// before the first line is put.
+/// duration, flags, description index, size. An object of JSON says too where it lies: the place of
+/// its first byte in the file, and the number of its `moof`, 0 for a sample of the tables. The file
+/// is judged as a whole, and all memory is taken, before the first line is put.
 pub fn samples_as<S: Store, K: Sink>(
     alloc: Global,
     store: &mut S,

@@ -1,6 +1,6 @@
 //! How two tracks that are aligned lie beside each other, as a line or as an object of JSON.
-ghost use Rattle.std.specs.Prelude.{◌≡◌, ◌+◌, ◌<◌, ◌++◌, OnOk};
-ghost use Rattle.mp4_answers.specs.format.AlignedLine.{alignment_line, alignment_object, alignment_text, behind_text, between_object, between_text, not_in, noun_text, numbers_text, only_text, own_stretch, own_text, same_members, samples_member, side_members, three_digits, time_member, time_text, timescale_member};
+ghost use Rattle.std.specs.Prelude.{◌≡◌, ◌+◌, ◌<◌, ◌++◌, max, OnOk};
+ghost use Rattle.mp4_answers.specs.format.AlignedLine.{alignment_line, alignment_object, alignment_text, behind_text, between_object, between_text, not_in, noun_text, numbers_text, only_text, own_stretch, own_text, same_members, samples_member, seconds_text, side_members, three_digits, time_member, time_text, timescale_member};
 
 use crate::text::difference_lines::{end_line, say, say_counted, say_number};
 use mp4_content::{Alignment, Between};
@@ -19,14 +19,22 @@ fn say_three_digits(text: &mut Vec<u8>, number: u64) -> Result<(), AllocError>
     text.extend_from_slice(&digits)
 }
 
+/// Adds a time in parts of a timescale, in seconds.
+pub(crate) fn say_seconds(text: &mut Vec<u8>, time: u64, timescale: u32) -> Result<(), AllocError>
+    ensures { OnOk result
+        (text.new.items ≡ text.old.items ++ seconds_text time (max 1 timescale)) }
+{
+    let parts = u64::from(timescale.max(1));
+    say_counted(text, " (", time / parts, ".")?;
+    say_three_digits(text, time % parts * 1000 / parts)?;
+    say(text, " s)")
+}
+
 // Adds when the first of some samples is decoded, in seconds.
 fn say_time(text: &mut Vec<u8>, between: Between) -> Result<(), AllocError>
     ensures { OnOk result (text.new.items ≡ text.old.items ++ time_text between) }
 {
-    let parts = u64::from(between.timescale.max(1));
-    say_counted(text, " (", between.time / parts, ".")?;
-    say_three_digits(text, between.time % parts * 1000 / parts)?;
-    say(text, " s)")
+    say_seconds(text, between.time, between.timescale)
 }
 
 // What stands between a number of samples and the file that has them.

@@ -3,17 +3,17 @@ ghost use Rattle.std.specs.Prelude.{◌≡◌, ◌≤◌, ◌++◌, ◌&&◌, �
 ghost use Rattle.mp4_content.specs.declared.comparing.differences.Field.TheVariants as fields;
 ghost use Rattle.mp4_answers.specs.format.DifferenceLine.{difference_text};
 ghost use Rattle.mp4_answers.specs.format.LastLine.{count_of_kind};
-ghost use Rattle.mp4_answers.specs.format.DifferenceObject.{count_member, count_members, difference_object, enough_value, escaped, field_steps, json_value, kinds_by_name, last_object, leaving_list, line_members, of_member, part_steps, subject_steps, total_members, totals_front, type_string, value_members, word_step};
+ghost use Rattle.mp4_answers.specs.format.DifferenceObject.{count_member, count_members, difference_object, end_members, enough_value, escaped, field_steps, fraction_member, json_value, kinds_by_name, last_object, leaving_list, line_members, of_member, part_steps, seconds_member, subject_steps, total_members, totals_front, type_string, value_members, word_step};
 
 use crate::text::difference_lines::{
     digits_of, end_line, entries_name, entry_name, is_numbered, name_of, say, say_counted,
-    say_line, say_value,
+    say_line, say_number, say_value,
 };
 use crate::text::json_text::push_printable;
 use crate::text::line::Line;
 use crate::text::tally::{DifferenceKind, count_of_kind, kind_name, kind_of_difference};
 use mp4_boxes::FourCc;
-use mp4_content::{Difference, Entries, Field, Part, Subject, Value, Without, Word};
+use mp4_content::{DecodeTime, Difference, Entries, Field, Part, Subject, Value, Without, Word};
 use mp4_tables::GroupKey;
 use std::alloc::AllocError;
 
@@ -195,17 +195,48 @@ fn say_line_members(text: &mut Vec<u8>, difference: Difference) -> Result<(), Al
     say_of(text, difference.field)
 }
 
+// Adds when a sample is decoded, as a fraction.
+fn say_fraction(text: &mut Vec<u8>, time: DecodeTime) -> Result<(), AllocError>
+    ensures { OnOk result (text.new.items ≡ text.old.items ++ fraction_member time) }
+{
+    say(text, ",\"seconds\":\"")?;
+    say_number(text, time.time)?;
+    say(text, "/")?;
+    say_number(text, u64::from(time.timescale))?;
+    say(text, "\"")
+}
+
+// The same of a sample; nothing of what is none.
+fn say_seconds_member(text: &mut Vec<u8>, time: Option<DecodeTime>) -> Result<(), AllocError>
+    ensures { OnOk result (text.new.items ≡ text.old.items ++ seconds_member time) }
+{
+    match time {
+        Some(decoded) => say_fraction(text, decoded),
+        None => Ok(()),
+    }
+}
+
+// Adds what an object ends with, and a line feed.
+fn say_end(text: &mut Vec<u8>, time: Option<DecodeTime>) -> Result<(), AllocError>
+    ensures { OnOk result (text.new.items ≡ text.old.items ++ end_members time) }
+{
+    say_seconds_member(text, time)?;
+    say(text, "}")?;
+    end_line(text)
+}
+
 /// Adds the object of a difference, and a line feed.
 pub(crate) fn say_difference_object(
     text: &mut Vec<u8>,
     difference: Difference,
+    time: Option<DecodeTime>,
 ) -> Result<(), AllocError>
-    ensures { OnOk result (text.new.items ≡ text.old.items ++ difference_object difference) }
+    ensures { OnOk result
+        (text.new.items ≡ text.old.items ++ difference_object time difference) }
 {
     say_values(text, difference)?;
     say_line_members(text, difference)?;
-    say(text, "}")?;
-    end_line(text)
+    say_end(text, time)
 }
 
 // Adds the count of a kind, where it isn't 0, and says whether none is added yet.

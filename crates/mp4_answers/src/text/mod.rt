@@ -23,5 +23,6 @@ pub mod sample_texts;
 pub mod sum_lines;
 pub mod tally;
 pub mod text_parts;
+pub mod timed_lines;
 pub mod type_names;
 pub mod verdicts;

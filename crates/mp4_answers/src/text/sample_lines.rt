@@ -16,10 +16,10 @@ use mp4_store::Sink;
 use mp4_tables::{SampleAt, Samples};
 
 /// More than the bytes of any line.
-const LONGEST: usize = 240;
+const LONGEST: usize = 296;
 
 /// The bytes of a line and those that are copied with it.
-const ROOM_OF_LINE: usize = 304;
+const ROOM_OF_LINE: usize = 360;
 
 /// How many bytes of lines go on together.
 const ROOM_OF_BLOCK: usize = 2_048;
@@ -38,7 +38,7 @@ fn plain_line(
     requires within { end ≤ length text.old }
     ensures before { result ≤ end }
     ensures written { drop result text.new
-        ≡ sample_at_line forms.Plain number sample.now ++ drop end text.old }
+        ≡ sample_at_line forms.Plain number 0 sample.now ++ drop end text.old }
 {
     let mut start = write_byte(text, end, b'\n');
     start = write_short_digits(text, start, sample.size);
@@ -55,25 +55,29 @@ fn plain_line(
     write_cached_number(text, start, number, &mut kept.number)
 }
 
-// The same as an object of JSON, with its names in order of their bytes.
+// The same as an object of JSON, with its names in order of their bytes, and with the place of the
+// sample in its file and the number of its `moof`.
 fn json_line(
     text: &mut [u8],
     end: usize,
     kept: &mut LineCache,
     number: u64,
+    fragment: u64,
     sample: &SampleAt,
 ) -> usize
     requires room { LONGEST ≤ end }
     requires within { end ≤ length text.old }
     ensures before { result ≤ end }
     ensures written { drop result text.new
-        ≡ sample_at_line forms.Json number sample.now ++ drop end text.old }
+        ≡ sample_at_line forms.Json number fragment sample.now ++ drop end text.old }
 {
     let mut start = write_bytes(text, end, b"}\n");
     start = write_short_digits(text, start, sample.size);
     start = write_bytes(text, start, b",\"size\":");
     start = write_digits(text, start, number);
     start = write_bytes(text, start, b",\"number\":");
+    start = write_digits(text, start, fragment);
+    start = write_bytes(text, start, b",\"fragment\":");
     start = write_short_digits(text, start, sample.flags);
     start = write_bytes(text, start, b",\"flags\":");
     start = write_short_digits(text, start, sample.duration);
@@ -83,7 +87,9 @@ fn json_line(
     start = write_digits(text, start, sample.dts);
     start = write_bytes(text, start, b",\"decode_time\":");
     start = write_kept_sum(text, start, sample.dts, sample.cto, &mut kept.composition);
-    write_bytes(text, start, b"{\"composition_time\":")
+    start = write_bytes(text, start, b",\"composition_time\":");
+    start = write_digits(text, start, sample.at);
+    write_bytes(text, start, b"{\"at\":")
 }
 
 // The line of a sample in this form.
@@ -94,17 +100,18 @@ fn sample_line(
     end: usize,
     kept: &mut LineCache,
     number: u64,
+    fragment: u64,
     sample: &SampleAt,
 ) -> usize
     requires room { LONGEST ≤ end }
     requires within { end ≤ length text.old }
     ensures before { result ≤ end }
     ensures written { drop result text.new
-        ≡ sample_at_line form number sample.now ++ drop end text.old }
+        ≡ sample_at_line form number fragment sample.now ++ drop end text.old }
 {
     match form {
         Form::Plain | Form::Named => plain_line(text, end, kept, number, sample),
-        Form::Json => json_line(text, end, kept, number, sample),
+        Form::Json => json_line(text, end, kept, number, fragment, sample),
     }
 }
 
@@ -113,6 +120,7 @@ fn sample_line(
 fn add_line(
     form: Form,
     number: u64,
+    fragment: u64,
     sample: &SampleAt,
     kept: &mut LineCache,
     text: &mut [u8],
@@ -120,9 +128,9 @@ fn add_line(
 )
     requires text { length text.old ≡ ROOM_OF_LINE }
     requires room { length block.old + ROOM_OF_LINE ≤ ROOM_OF_BLOCK }
-    ensures { block.new ≡ block.old ++ sample_at_line form number sample.now }
+    ensures { block.new ≡ block.old ++ sample_at_line form number fragment sample.now }
 {
-    let start = sample_line(form, text, LONGEST, kept, number, sample);
+    let start = sample_line(form, text, LONGEST, kept, number, fragment, sample);
     let (_unused, line) = text.split_at(start);
     block.push_front(line, LONGEST - start);
 }
@@ -146,17 +154,19 @@ fn make_room<K: Sink>(
     Ok(())
 }
 
-/// Takes a line for each sample still to come along: at Ok all of them, at Err a front of what they
-/// and what waited before are. The number is that of the next one; it stays at 2^64 - 1.
+/// Takes a line for each sample still to come along, all of the `moof` with this number, or of the
+/// tables: at Ok all of them, at Err a front of what they and what waited before are. The number is
+/// that of the next one; it stays at 2^64 - 1.
 pub fn put_lines<C: Samples, K: Sink>(
     form: Form,
+    fragment: u64,
     samples: &mut C,
     number: &mut u64,
     carrier: &mut OutBuffer,
     sink: &mut K,
 ) -> Result<(), Refusal>
-    ensures lines { PutsLines K.Sink sink.old sink.new carrier.old carrier.new form number.old
-        number.new (C.rest samples.old) result }
+    ensures lines { PutsLines K.Sink sink.old sink.new carrier.old carrier.new form fragment
+        number.old number.new (C.rest samples.old) result }
     ensures rest { OnOk result (C.rest samples.new ≡ []) }
     ensures puts { PutsOrFails K.Sink sink.old sink.new result }
     ensures later { C.follows samples.old samples.new }
@@ -166,7 +176,9 @@ pub fn put_lines<C: Samples, K: Sink>(
     let mut block = LineBlock::new();
     while let Some(sample) = samples.next() {
         make_room(&mut block, carrier, sink)?;
-        add_line(form, *number, &sample, &mut kept, &mut text, &mut block);
+        add_line(
+            form, *number, fragment, &sample, &mut kept, &mut text, &mut block,
+        );
         *number = number.saturating_add(1);
     }
     carrier.carry(block.as_bytes(), sink)

@@ -4,9 +4,8 @@ use Rattle.std.specs.Prelude.{◌≡◌, ◌↔◌, ℕ, suc, ◌/◌, ◌%◌, 
 use Rattle.std.specs.List.{AllZip}
 use Rattle.mp4_boxes.specs.format.Children.{is_among}
 use Rattle.mp4_head.specs.format.Head.{Kept, Media, TrackHead, MovieHead}
-use Rattle.mp4_content.specs.format.BitRates.{unrated_descriptions}
 use Rattle.mp4_present.specs.format.Presentation.{Sample, Track, Presentation}
-use Rattle.mp4_content.specs.format.Reduced.{metadata_kinds, first_offset, is_at_end, plain_handler, plain_descriptions, reduce}
+use Rattle.mp4_content.specs.format.Reduced.{metadata_kinds, first_offset, is_at_end, plain_handler, reduce_descriptions, reduce}
 use Rattle.mp4_content.specs.declared.without.Without.{Without}
 
 -- a kept box that is no metadata
@@ -32,6 +31,9 @@ AllAgree l count first other n (a ∷ samples) (b ∷ others) =
     SamplesAgree l count first other n a b × AllAgree l count first other (suc n) samples others
 AllAgree l count first other n _ _ = ⊥
 
+-- What counts of sample descriptions is what is left of them (`Reduced.antt`), and that is the
+-- same: `labels` leaves out names of compressors, `bitrates` what says bit rates, `ids` ES_ID of
+-- `esds`. Without these three words all of a description counts.
 pub record MediaAgree (l : Without) (a b : Media) : Type 0 where
   pub timescale : l.timing ≡ false → a.timescale ≡ b.timescale
   pub language : a.language ≡ b.language
@@ -41,14 +43,8 @@ pub record MediaAgree (l : Without) (a b : Media) : Type 0 where
   pub modification : l.times ≡ false → a.modification ≡ b.modification
   pub handler : l.labels ≡ false → a.handler ≡ b.handler
   pub left_handler : plain_handler a.handler ≡ plain_handler b.handler
-  pub descriptions : l.labels ≡ false → l.bitrates ≡ false → a.descriptions ≡ b.descriptions
-  pub plain : l.bitrates ≡ false → plain_descriptions a.handler a.descriptions
-      ≡ plain_descriptions b.handler b.descriptions
-  pub unrated : l.labels ≡ false → unrated_descriptions a.handler a.descriptions
-      ≡ unrated_descriptions b.handler b.descriptions
-  pub left_descriptions :
-      plain_descriptions a.handler (unrated_descriptions a.handler a.descriptions)
-      ≡ plain_descriptions b.handler (unrated_descriptions b.handler b.descriptions)
+  pub descriptions : reduce_descriptions l a.handler a.descriptions
+      ≡ reduce_descriptions l b.handler b.descriptions
 
 pub record TrackHeadsAgree (l : Without) (a b : TrackHead) : Type 0 where
   pub flags : l.roles ≡ false → a.flags ≡ b.flags

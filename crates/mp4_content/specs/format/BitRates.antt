@@ -1,5 +1,7 @@
 -- Bit rates and sizes of buffers in sample descriptions: `btrt` (ISO/IEC 14496-12, 8.5.2.2), and
--- three fields in `esds` (ISO/IEC 14496-1, 7.2.6.6). What is left of a description without them.
+-- three fields in `esds` (ISO/IEC 14496-1, 7.2.6.6). IDs there: ES_ID in `esds`, which is 0 in a
+-- file (ISO/IEC 14496-14, 3.1.2), though writers put the ID of the track there. What is left of a
+-- description goes by whether rates are left out, and whether IDs are.
 use Rattle.std.specs.Prelude.{ℕ, zero, suc, ◌+◌, ◌-◌, ◌*◌, ◌/◌, ◌%◌, ◌^◌, ◌==◌, ◌&&◌, nat_le, nat_lt, not, Bool, if◌then◌else◌, List, [], ◌∷◌, ◌++◌, length, take, drop, map, filter, flat_map, codes, bytes_eq, slice_index}
 use Rattle.std.specs.List.{list_all}
 use Rattle.mp4_boxes.specs.format.Bytes.{field}
@@ -58,15 +60,28 @@ config_at payload = clock_at payload + (if stream_flags payload / 32 % 2 == 1 th
 unfoldable pub rates_at : List ℕ → ℕ
 rates_at payload = content_at payload (config_at payload) + 2
 
--- the payload has them: both descriptors, each within the one around it
+-- the payload has rates: both descriptors, each within the one around it
 unfoldable pub has_rates : List ℕ → Bool
 has_rates payload = has_descriptor 3 (length payload) payload 4
     && has_descriptor 4 (content_end payload 4) payload (config_at payload)
     && nat_le (rates_at payload + 11) (content_end payload (config_at payload))
 
--- what is left of the payload: zeros in their place
-abbrev pub esds_left : List ℕ → List ℕ
-esds_left payload = if has_rates payload then zeroed (rates_at payload) 11 payload else payload
+-- the payload has ES_ID: the outer descriptor, with room for its two bytes
+unfoldable pub has_id : List ℕ → Bool
+has_id payload = has_descriptor 3 (length payload) payload 4
+    && nat_le (content_at payload 4 + 2) (content_end payload 4)
+
+-- what is left of the payload: zeros in their places
+abbrev pub rates_zeroed : List ℕ → List ℕ
+rates_zeroed payload = if has_rates payload then zeroed (rates_at payload) 11 payload else payload
+
+abbrev pub id_zeroed : List ℕ → List ℕ
+id_zeroed payload = if has_id payload then zeroed (content_at payload 4) 2 payload else payload
+
+abbrev pub esds_left : Bool → Bool → List ℕ → List ℕ
+esds_left rates ids payload =
+    if rates then rates_zeroed (if ids then id_zeroed payload else payload)
+    else (if ids then id_zeroed payload else payload)
 
 -- ---- boxes in descriptions
 
@@ -104,48 +119,53 @@ end_of bytes = behind_boxes (length bytes) bytes
 abbrev pub are_zeros : ℕ → List ℕ → Bool
 are_zeros most bytes = nat_le (length bytes) most && list_all (λ (b : ℕ). b == 0) bytes
 
--- the boxes but `btrt`, each changed
-abbrev pub left_of_boxes : (Kept → Kept) → List Kept → List Kept
-left_of_boxes change boxes =
-    map change (filter (λ (k : Kept). not (bytes_eq k.kind (codes "btrt"))) boxes)
+-- a box stays: where rates are left out, all but `btrt`
+abbrev pub is_left : Bool → Kept → Bool
+is_left rates k = not (rates && bytes_eq k.kind (codes "btrt"))
+
+-- the boxes that stay, each changed
+abbrev pub left_of_boxes : Bool → (Kept → Kept) → List Kept → List Kept
+left_of_boxes rates change boxes = map change (filter (is_left rates) boxes)
 
 -- What is left of bytes that boxes tile, up to so many zeros at their end; others stay.
-abbrev pub tiles_left : (Kept → Kept) → ℕ → List ℕ → List ℕ
-tiles_left change zeros bytes = if are_zeros zeros (end_of bytes)
-    then flat_map kept_bytes (left_of_boxes change (boxes_of bytes)) ++ end_of bytes else bytes
+abbrev pub tiles_left : Bool → (Kept → Kept) → ℕ → List ℕ → List ℕ
+tiles_left rates change zeros bytes = if are_zeros zeros (end_of bytes)
+    then flat_map kept_bytes (left_of_boxes rates change (boxes_of bytes)) ++ end_of bytes
+    else bytes
 
 -- what is left of a box in a `wave`, and of one in a description: of `esds`, and of `wave`, which
 -- QuickTime has around the same boxes
-abbrev pub inner_box_left : Kept → Kept
-inner_box_left k = record k {
-  payload = if bytes_eq k.kind (codes "esds") then esds_left k.payload else k.payload;
+abbrev pub inner_box_left : Bool → Bool → Kept → Kept
+inner_box_left rates ids k = record k {
+  payload = if bytes_eq k.kind (codes "esds") then esds_left rates ids k.payload else k.payload;
 }
 
-abbrev pub wave_left : List ℕ → List ℕ
-wave_left payload = tiles_left inner_box_left 0 payload
+abbrev pub wave_left : Bool → Bool → List ℕ → List ℕ
+wave_left rates ids payload = tiles_left rates (inner_box_left rates ids) 0 payload
 
-abbrev pub box_left : Kept → Kept
-box_left k = record k {
-  payload = if bytes_eq k.kind (codes "wave") then wave_left k.payload
-      else (inner_box_left k).payload;
+abbrev pub box_left : Bool → Bool → Kept → Kept
+box_left rates ids k = record k {
+  payload = if bytes_eq k.kind (codes "wave") then wave_left rates ids k.payload
+      else (inner_box_left rates ids k).payload;
 }
 
 -- ---- descriptions
 
 -- what is left of boxes from a place on, if the payload has it
-abbrev pub behind_left : ℕ → ℕ → List ℕ → List ℕ
-behind_left at zeros payload = if nat_le at (length payload)
-    then take at payload ++ tiles_left box_left zeros (drop at payload) else payload
+abbrev pub behind_left : Bool → Bool → ℕ → ℕ → List ℕ → List ℕ
+behind_left rates ids at zeros payload = if nat_le at (length payload)
+    then take at payload ++ tiles_left rates (box_left rates ids) zeros (drop at payload)
+    else payload
 
 -- of a VisualSampleEntry (12.1.3), which may end in four zeros that end a list of QuickTime
-abbrev pub picture_left : List ℕ → List ℕ
-picture_left payload = behind_left 78 4 payload
+abbrev pub picture_left : Bool → Bool → List ℕ → List ℕ
+picture_left rates ids payload = behind_left rates ids 78 4 payload
 
 -- of an AudioSampleEntry (12.2.3), the longer ones of QuickTime's versions 1 and 2 too
-abbrev pub sound_left : List ℕ → List ℕ
-sound_left payload = if field payload 8 2 == 0 then behind_left 28 0 payload
-    else if field payload 8 2 == 1 then behind_left 44 0 payload
-    else if field payload 8 2 == 2 then behind_left 64 0 payload
+abbrev pub sound_left : Bool → Bool → List ℕ → List ℕ
+sound_left rates ids payload = if field payload 8 2 == 0 then behind_left rates ids 28 0 payload
+    else if field payload 8 2 == 1 then behind_left rates ids 44 0 payload
+    else if field payload 8 2 == 2 then behind_left rates ids 64 0 payload
     else payload
 
 -- The payload of another entry ends in a `btrt` of 20 bytes, behind the 8 bytes that each entry has
@@ -164,16 +184,19 @@ shorter_by (suc most) payload = if ends_in_rates payload
 abbrev pub other_left : List ℕ → List ℕ
 other_left payload = shorter_by (length payload) payload
 
--- what is left of a description by the type of its track's handler (8.4.3)
-abbrev pub unrated_payload : List ℕ → List ℕ → List ℕ
-unrated_payload handler payload =
-    if bytes_eq handler (codes "vide") then picture_left payload
-    else if bytes_eq handler (codes "soun") then sound_left payload
-    else other_left payload
+-- What is left of a description by the type of its track's handler (8.4.3). Of other handlers a
+-- `btrt` at the end alone is looked for.
+abbrev pub payload_left : Bool → Bool → List ℕ → List ℕ → List ℕ
+payload_left rates ids handler payload =
+    if bytes_eq handler (codes "vide") then picture_left rates ids payload
+    else if bytes_eq handler (codes "soun") then sound_left rates ids payload
+    else if rates then other_left payload
+    else payload
 
-abbrev pub unrated : List ℕ → Kept → Kept
-unrated handler k = record k { payload = unrated_payload (handler_type handler) k.payload }
+abbrev pub entry_left : Bool → Bool → List ℕ → Kept → Kept
+entry_left rates ids handler k =
+    record k { payload = payload_left rates ids (handler_type handler) k.payload }
 
 -- sample descriptions of a track with this handler
-abbrev pub unrated_descriptions : List ℕ → List Kept → List Kept
-unrated_descriptions handler descriptions = map (unrated handler) descriptions
+abbrev pub entries_left : Bool → Bool → List ℕ → List Kept → List Kept
+entries_left rates ids handler descriptions = map (entry_left rates ids handler) descriptions

@@ -5,7 +5,7 @@ use Rattle.std.specs.Int.{w32}
 use Rattle.std.specs.List.{AllByRecursion}
 use Rattle.mp4_boxes.specs.format.Children.{is_among}
 use Rattle.mp4_head.specs.format.Head.{Kept, Media, TrackHead, MovieHead, handler_type}
-use Rattle.mp4_content.specs.format.BitRates.{unrated_descriptions}
+use Rattle.mp4_content.specs.format.BitRates.{entries_left}
 use Rattle.mp4_present.specs.format.Presentation.{Sample, Track, Presentation, IsInTime}
 use Rattle.mp4_content.specs.format.Zeros.{zeroed}
 use Rattle.mp4_content.specs.declared.without.Without.{Without}
@@ -101,15 +101,16 @@ abbrev pub plain_descriptions : List ℕ → List Kept → List Kept
 plain_descriptions handler descriptions =
     if is_picture handler then map plain_picture descriptions else descriptions
 
--- what is left of sample descriptions of a track with this handler
-abbrev pub rates_left : Without → List ℕ → List Kept → List Kept
-rates_left l handler descriptions =
-    if l.bitrates then unrated_descriptions handler descriptions else descriptions
+-- what is left of sample descriptions of a track with this handler: first without bit rates, and
+-- without the IDs in them
+abbrev pub rates_and_ids_left : Without → List ℕ → List Kept → List Kept
+rates_and_ids_left l handler descriptions = if l.bitrates || l.ids
+    then entries_left l.bitrates l.ids handler descriptions else descriptions
 
 abbrev pub reduce_descriptions : Without → List ℕ → List Kept → List Kept
 reduce_descriptions l handler descriptions =
-    if l.labels then plain_descriptions handler (rates_left l handler descriptions)
-    else rates_left l handler descriptions
+    if l.labels then plain_descriptions handler (rates_and_ids_left l handler descriptions)
+    else rates_and_ids_left l handler descriptions
 
 -- ---- heads
 

@@ -1,5 +1,6 @@
 //! What differs between two presentations, one value at a time.
-ghost use Rattle.std.specs.Prelude.{◌≡◌, ◌∷◌, [], ◌++◌, List, Bool, true};
+ghost use Rattle.std.specs.Prelude.{◌≡◌, ◌∷◌, [], ◌++◌, List, Option, Bool, true};
+ghost use Rattle.mp4_content.specs.declared.comparing.differences.DecodeTime.{DecodeTime};
 ghost use Rattle.mp4_content.specs.declared.comparing.differences.Difference.{Difference};
 
 use mp4_boxes::FourCc;
@@ -112,17 +113,30 @@ pub struct Difference {
     pub right: Value,
 }
 
-/// What takes differences one by one.
+/// When a sample is decoded: so many parts of a second, and how many parts a second has (8.4.2,
+/// 8.6.1.2).
+#[derive(Clone, Copy, Debug, PartialEq, Eq)]
+pub struct DecodeTime {
+    pub time: u64,
+    pub timescale: u32,
+}
+
+/// What takes differences one by one, each along with when the sample is decoded that it is of; of
+/// what is no sample it has none.
 pub trait Differences {
     /// The differences that it took.
     ghost taken: { Self → List Difference };
+
+    /// The decode times that it took along with them.
+    ghost times: { Self → List (Option DecodeTime) };
 
     /// Whether it takes a further one.
     ghost is_open: { Self → Bool };
 
     /// Takes a difference, and says whether it takes a further one.
-    fn take(&mut self, difference: Difference) -> bool
+    fn take(&mut self, difference: Difference, time: Option<DecodeTime>) -> bool
         requires { is_open self.old ≡ true }
         ensures taken { taken self.new ≡ taken self.old ++ difference ∷ [] }
+        ensures times { times self.new ≡ times self.old ++ time ∷ [] }
         ensures goes { result ≡ is_open self.new };
 }

@@ -1,9 +1,12 @@
 //! Two opened files, compared by what they say.
-ghost use Rattle.std.specs.Prelude.{◌≡◌, ◌+◌, ◌<◌, ◌≤◌, ℕ, ◌++◌, ◌&&◌, ◌==◌, not, take, true, slice_get, IfOk, OnOk};
+ghost use Rattle.std.specs.Prelude.{◌≡◌, ◌+◌, ◌<◌, ◌≤◌, ℕ, ◌++◌, ◌&&◌, ◌==◌, not, take, true, option_map, slice_get, IfOk, IfSome, OnOk};
 ghost use Rattle.mp4_content.specs.words.Compared.{WhereOpenedBoth, HaveTracks, OfFiles, OfListed, OfScaled, WhereScaled, WhereTracks, comparing_steps, OfSamples, OfTracks, TracksWork};
 ghost use Rattle.mp4_content.specs.words.Differing.{RefusesSample, RefusedBoth};
 ghost use Rattle.mp4_content.specs.words.HeadsDiffer.{begun_differ};
+ghost use Rattle.mp4_content.specs.words.TimesTaken.{HaveTime, IsTimed, KeepsTimes};
 ghost use Rattle.mp4_content.specs.words.TwoStores.{HandsOver, OnlyReadsBoth};
+ghost use Rattle.mp4_present.specs.format.Denotes.{presentation_of};
+ghost use Rattle.mp4_present.specs.format.Presentation.{Presentation};
 ghost use Rattle.mp4_present.specs.words.StoresRead.{OnlyReads, IsUnchanged};
 ghost use Rattle.mp4_present.specs.words.WalkSteps.{walks_steps};
 
@@ -20,7 +23,7 @@ pub mod samples;
 pub mod tracks;
 
 use crate::comparing::both_scales::BothScales;
-use crate::comparing::differences::{Difference, Differences, Field, Subject};
+use crate::comparing::differences::{DecodeTime, Difference, Differences, Field, Subject};
 use crate::comparing::fields::compare_numbers;
 use crate::comparing::heads::{movie_differences, track_differences};
 use crate::comparing::movies::Movies;
@@ -37,16 +40,19 @@ use mp4_store::Store;
 use std::alloc::Global;
 use std::sync::ledger::Ledger;
 
-// What was found goes to whoever takes it, and whether a further difference is taken.
-fn hand_over<D: Differences>(found: &[Difference], seen: &mut D) -> bool
+// What was found of what is decoded then goes to whoever takes it, and whether a further difference
+// is taken.
+fn hand_over<D: Differences>(found: &[Difference], time: Option<DecodeTime>, seen: &mut D) -> bool
     requires { D.is_open seen.old ≡ true }
     ensures all { result ≡ true → D.taken seen.new ≡ D.taken seen.old ++ found.now }
     ensures front { (n : ℕ) × (D.taken seen.new ≡ D.taken seen.old ++ take n found.now) }
+    ensures timed { (p : Presentation) → HaveTime p time found.now
+        → KeepsTimes D.Differences seen.old seen.new p }
     ensures goes { result ≡ D.is_open seen.new }
 {
     for k in 0..found.len() {
         let difference = found[k];
-        if !seen.take(difference) {
+        if !seen.take(difference, time) {
             return false;
         }
     }
@@ -68,6 +74,9 @@ pub(crate) fn compare_track_samples<S: Store, T: Store, D: Differences, L: Ledge
     ensures handed { HandsOver D.Differences seen.old seen.new result (OfSamples S.Store left.old
         tracks.entry.movies.now.left T.Store right.old tracks.entry.movies.now.right
         tracks.entry.place tracks.entry.leaving tracks.entry.divisors) }
+    ensures timed { WhereTracks S.Store left.old tracks.entry.movies.now.left T.Store right.old
+        tracks.entry.movies.now.right tracks.entry.place (λ tree t other u.
+        KeepsTimes D.Differences seen.old seen.new (presentation_of (S.file left.old) tree)) }
     ensures unchanged { WhereTracks S.Store left.old tracks.entry.movies.now.left T.Store
         right.old tracks.entry.movies.now.right tracks.entry.place
         (λ tree t other u. IsUnchanged result) }
@@ -80,8 +89,8 @@ pub(crate) fn compare_track_samples<S: Store, T: Store, D: Differences, L: Ledge
 {
     let (by, mut sides) = begin_pairs(alloc, tracks, left, right, steps)?;
     let Tracks { movies, place, .. } = tracks;
-    let samples = movies.left.tracks()[place].samples;
-    let count = samples.min(movies.right.tracks()[place].samples);
+    let info = movies.left.tracks()[place];
+    let count = info.samples.min(movies.right.tracks()[place].samples);
     let mut pause = Pause::new();
     let mut number = 0;
     while number < count {
@@ -99,7 +108,11 @@ pub(crate) fn compare_track_samples<S: Store, T: Store, D: Differences, L: Ledge
                     number,
                 };
                 let found = compare_pair(alloc, next, &mut sides, left, right, steps)?;
-                if !hand_over(found.as_slice(), seen) {
+                let time = DecodeTime {
+                    time: found.time,
+                    timescale: info.timescale,
+                };
+                if !hand_over(found.differences.as_slice(), Some(time), seen) {
                     return Ok(false);
                 }
             }
@@ -160,6 +173,9 @@ fn compare_tracks<S: Store, T: Store, D: Differences, L: Ledger, M: Ledger>(
         tracks.entry.movies.now.left heads.entry.left.now T.Store right.old
         tracks.entry.movies.now.right heads.entry.right.now tracks.entry.place aligned
         tracks.entry.leaving tracks.entry.divisors) }
+    ensures timed { WhereTracks S.Store left.old tracks.entry.movies.now.left T.Store right.old
+        tracks.entry.movies.now.right tracks.entry.place (λ tree t other u.
+        KeepsTimes D.Differences seen.old seen.new (presentation_of (S.file left.old) tree)) }
     ensures unchanged { WhereTracks S.Store left.old tracks.entry.movies.now.left T.Store
         right.old tracks.entry.movies.now.right tracks.entry.place
         (λ tree t other u. IsUnchanged result) }
@@ -180,7 +196,7 @@ fn compare_tracks<S: Store, T: Store, D: Differences, L: Ledger, M: Ledger>(
     let other = movies.right.tracks()[place];
     let number = place as u64 + 1;
     let found = compare_track_heads(alloc, leaving, divisors, heads, number, &info, &other)?;
-    if !hand_over(found.as_slice(), seen) {
+    if !hand_over(found.as_slice(), None, seen) {
         return Ok(false);
     }
     if skips_samples(aligned, info.samples, other.samples) {
@@ -213,6 +229,9 @@ fn compare_scaled<S: Store, T: Store, D: Differences, L: Ledger, M: Ledger>(
     ensures handed { HandsOver D.Differences seen.old seen.new result (OfScaled S.Store left.old
         movies.now.left T.Store right.old movies.now.right by.entry.aligned by.entry.leaving
         by.entry.scales.now) }
+    ensures timed { WhereScaled S.Store left.old movies.now.left T.Store right.old
+        movies.now.right by.entry.leaving by.entry.scales.now (λ tree other.
+        KeepsTimes D.Differences seen.old seen.new (presentation_of (S.file left.old) tree)) }
     ensures unchanged { WhereScaled S.Store left.old movies.now.left T.Store right.old
         movies.now.right by.entry.leaving by.entry.scales.now (λ tree other. IsUnchanged result) }
     ensures work { WhereScaled S.Store left.old movies.now.left T.Store right.old
@@ -236,7 +255,7 @@ fn compare_scaled<S: Store, T: Store, D: Differences, L: Ledger, M: Ledger>(
     let other_own = payloads_left(alloc, leaving, other_read.tracks.as_slice())?;
     let other_head = head_left(alloc, other_read, leaving, &scales.right, &other_own)?;
     let found = movie_differences(alloc, &head, &other_head)?;
-    if !hand_over(found.as_slice(), seen) {
+    if !hand_over(found.as_slice(), None, seen) {
         return Ok(false);
     }
     let count = movies.left.tracks().len().min(movies.right.tracks().len());
@@ -277,6 +296,9 @@ pub fn compare_listed<S: Store, T: Store, D: Differences, L: Ledger, M: Ledger>(
     ensures stores { OnlyReadsBoth S.Store left.old left.new T.Store right.old right.new result }
     ensures handed { HandsOver D.Differences seen.old seen.new result (OfListed S.Store left.old
         movies.now.left T.Store right.old movies.now.right aligned leaving) }
+    ensures timed { WhereOpenedBoth S.Store left.old movies.now.left T.Store right.old
+        movies.now.right (λ tree other.
+        KeepsTimes D.Differences seen.old seen.new (presentation_of (S.file left.old) tree)) }
     ensures unchanged { WhereOpenedBoth S.Store left.old movies.now.left T.Store right.old
         movies.now.right (λ tree other. IsUnchanged result) }
     ensures work { WhereOpenedBoth S.Store left.old movies.now.left T.Store right.old
@@ -313,6 +335,9 @@ pub fn compare_all<S: Store, T: Store, D: Differences, L: Ledger, M: Ledger>(
     ensures stores { OnlyReadsBoth S.Store left.old left.new T.Store right.old right.new result }
     ensures handed { HandsOver D.Differences seen.old seen.new result (OfFiles S.Store left.old
         movies.now.left T.Store right.old movies.now.right leaving) }
+    ensures timed { WhereOpenedBoth S.Store left.old movies.now.left T.Store right.old
+        movies.now.right (λ tree other.
+        KeepsTimes D.Differences seen.old seen.new (presentation_of (S.file left.old) tree)) }
     ensures unchanged { WhereOpenedBoth S.Store left.old movies.now.left T.Store right.old
         movies.now.right (λ tree other. IsUnchanged result) }
     ensures work { WhereOpenedBoth S.Store left.old movies.now.left T.Store right.old
@@ -326,21 +351,52 @@ pub fn compare_all<S: Store, T: Store, D: Differences, L: Ledger, M: Ledger>(
     compare_listed(alloc, movies, left, right, leaving, false, seen, steps)
 }
 
+/// A difference, and when the sample that it is of is decoded in the first file; of what is no
+/// sample there is no such time.
+#[derive(Clone, Copy, Debug, PartialEq, Eq)]
+pub struct Found {
+    pub difference: Difference,
+    pub time: Option<DecodeTime>,
+}
+
 // The first difference that comes.
 #[derive(Drop)]
 pub(crate) struct FirstDifference {
     pub(crate) first: Option<Difference>,
+    pub(crate) time: Option<DecodeTime>,
+}
+
+impl FirstDifference {
+    ghost use Rattle.std.specs.Prelude.{◌≡◌};
+    ghost use Rattle.mp4_content.specs.words.TimesTaken.{found_with};
+
+    // With its decode time.
+    fn found(&self) -> Option<Found>
+        ensures { result ≡ found_with self.now.first self.now.time }
+    {
+        match self.first {
+            Some(difference) => Some(Found {
+                difference,
+                time: self.time,
+            }),
+            None => None,
+        }
+    }
 }
 
 impl Differences for FirstDifference {
     ghost use Rattle.mp4_content.specs.words.Differing.{as_list, is_none_yet};
+    ghost use Rattle.mp4_content.specs.words.TimesTaken.{time_as_list};
 
     ghost taken = { λ s. as_list s.first };
 
+    ghost times = { λ s. time_as_list s.first s.time };
+
     ghost is_open = { λ s. is_none_yet s.first };
 
-    fn take(&mut self, difference: Difference) -> bool {
+    fn take(&mut self, difference: Difference, time: Option<DecodeTime>) -> bool {
         self.first = Some(difference);
+        self.time = time;
         false
     }
 }
@@ -354,11 +410,15 @@ pub fn compare<S: Store, T: Store, L: Ledger, M: Ledger>(
     right: &mut T,
     leaving: Without,
     steps: &mut Steps<L, M>,
-) -> Result<Option<Difference>, Refusal>
+) -> Result<Option<Found>, Refusal>
     ensures left { OnlyReads S.Store left.old left.new result }
     ensures right { OnlyReads T.Store right.old right.new result }
     ensures first { IfOk result (λ first. OfFiles S.Store left.old movies.now.left T.Store
-        right.old movies.now.right leaving (λ found. first ≡ slice_get found 0)) }
+        right.old movies.now.right leaving
+        (λ found. option_map (λ f. f.difference) first ≡ slice_get found 0)) }
+    ensures timed { IfOk result (λ first. WhereOpenedBoth S.Store left.old movies.now.left T.Store
+        right.old movies.now.right
+        (λ tree other. IfSome first (IsTimed (presentation_of (S.file left.old) tree)))) }
     ensures unchanged { WhereOpenedBoth S.Store left.old movies.now.left T.Store right.old
         movies.now.right (λ tree other. IsUnchanged result) }
     ensures work { WhereOpenedBoth S.Store left.old movies.now.left T.Store right.old
@@ -369,7 +429,10 @@ pub fn compare<S: Store, T: Store, L: Ledger, M: Ledger>(
     ensures grows { OnOk result (steps.old.passed ≤ steps.new.passed) }
     ensures looks { steps.new.looks ≡ steps.old.looks }
 {
-    let mut seen = FirstDifference { first: None };
+    let mut seen = FirstDifference {
+        first: None,
+        time: None,
+    };
     let _all = compare_all(alloc, movies, left, right, leaving, &mut seen, steps)?;
-    Ok(seen.first)
+    Ok(seen.found())
 }

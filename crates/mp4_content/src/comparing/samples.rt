@@ -1,6 +1,7 @@
 //! Samples of two tracks, compared one by one.
-ghost use Rattle.std.specs.Prelude.{◌≡◌, ◌<◌, ◌≤◌, ◌++◌, length, IfOk, OnOk};
+ghost use Rattle.std.specs.Prelude.{◌≡◌, ◌<◌, ◌≤◌, ◌++◌, length, slice_get, IfOk, OnOk};
 ghost use Rattle.mp4_tables.specs.words.Keys.{key_place, key_seen, keys_seen};
+ghost use Rattle.mp4_content.specs.words.Aligning.{due};
 ghost use Rattle.mp4_content.specs.words.Compared.{BothCome, BothWork, HaveTracks, IsPairingAt, PairFound, TracksWork, WhereBothLie, WhereTracks};
 ghost use Rattle.mp4_content.specs.words.Differing.{sample_values, index_in, group_differences, differences_at, sample_bytes_differ, RefusedBoth, RefusesSample};
 ghost use Rattle.mp4_present.specs.words.Joined.{IsBelow};
@@ -193,6 +194,13 @@ pub(crate) struct Next<'a> {
     pub(crate) number: u32,
 }
 
+// What differs between two samples, and when the left one is decoded.
+#[derive(Drop)]
+pub(crate) struct PairDiffers {
+    pub(crate) differences: Vec<Difference>,
+    pub(crate) time: u64,
+}
+
 // What differs between the next samples of both tracks, which are taken: both sides go on, and
 // what they may take of steps is less by those that were taken.
 pub(crate) fn compare_pair<S: Store, T: Store, L: Ledger, M: Ledger>(
@@ -202,7 +210,7 @@ pub(crate) fn compare_pair<S: Store, T: Store, L: Ledger, M: Ledger>(
     left: &mut S,
     right: &mut T,
     steps: &mut Steps<L, M>,
-) -> Result<Vec<Difference>, Refusal>
+) -> Result<PairDiffers, Refusal>
     requires sides { BothStand S.Store left.old next.movies.now.left sides.old.left T.Store
         right.old next.movies.now.right sides.old.right }
     ensures stores { OnlyReadsBoth S.Store left.old left.new T.Store right.old right.new result }
@@ -210,8 +218,11 @@ pub(crate) fn compare_pair<S: Store, T: Store, L: Ledger, M: Ledger>(
         sides.new.left T.Store right.old next.entry.movies.now.right sides.new.right) }
     ensures found { PairFound next.entry.by.now next.entry.number S.Store left.old
         next.entry.movies.now.left sides.old.left sides.new.left T.Store right.old
-        next.entry.movies.now.right sides.old.right sides.new.right (λ found. found.items)
-        result }
+        next.entry.movies.now.right sides.old.right sides.new.right
+        (λ found. found.differences.items) result }
+    ensures time { BothCome S.Store left.old next.entry.movies.now.left sides.old.left T.Store
+        right.old next.entry.movies.now.right sides.old.right (λ tree t xs other u ys.
+        IfOk result (λ found. found.time ≡ due (slice_get xs 0))) }
     ensures unchanged { WhereBothLie S.Store left.old next.entry.movies.now.left sides.old.left
         T.Store right.old next.entry.movies.now.right sides.old.right (IsUnchanged result) }
     ensures work { BothWork S.Store left.old next.entry.movies.now.left sides.old.left
@@ -233,7 +244,10 @@ pub(crate) fn compare_pair<S: Store, T: Store, L: Ledger, M: Ledger>(
         right: &y,
     };
     compare_bytes(of, pair, sides, left, right, &mut found)?;
-    Ok(found)
+    Ok(PairDiffers {
+        differences: found,
+        time: x.dts,
+    })
 }
 
 // Both sides have a sample in hand, where they have not come to the end: the same samples come.

@@ -44,6 +44,8 @@ pub record MovieSeen : Type 0 where
   pub moov : List ℕ
   pub file_len : ℕ
   pub longest : ℕ
+  -- where the `moof`s begin, in file order
+  pub moofs : List ℕ
   pub tables : List TrackTables
   pub states : List TrackState
   pub tracks : List TrackInfo

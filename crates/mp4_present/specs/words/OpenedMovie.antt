@@ -2,7 +2,7 @@
 use Rattle.std.specs.Prelude.{◌≡◌, ℕ, ◌-◌, ◌^◌, ◌<◌, min, List, [], ◌∷◌, ⊤, length, map, Option, None, true, IsTrue, codes}
 use Rattle.std.specs.List.{AllByRecursion, AllZip}
 use Rattle.mp4_boxes.specs.format.Bytes.{sum_of, AreBytes}
-use Rattle.mp4_boxes.specs.format.Box.{box_container, file_container}
+use Rattle.mp4_boxes.specs.format.Box.{Box, box_container, file_container}
 use Rattle.mp4_boxes.specs.format.Children.{Holds, of_kind}
 use Rattle.mp4_boxes.specs.declared.rule.Rule.TheVariants as rules
 use Rattle.mp4_tables.specs.words.Accepted.{tables_at}
@@ -28,6 +28,7 @@ use Rattle.mp4_frag.specs.declared.state.TrackState.{TrackState}
 use Rattle.mp4_head.specs.declared.heads.TrackHead.{TrackHead}
 use Rattle.mp4_present.specs.declared.opening.FoundTracks.{FoundTracks}
 use Rattle.mp4_present.specs.declared.opening.outline.Outline.{Outline}
+use Rattle.mp4_present.specs.declared.reading.TopBox.{TopBox}
 use Rattle.mp4_present.specs.declared.movie.TrackTables.{TrackTables}
 use Rattle.mp4_present.specs.declared.track_info.TrackInfo.{TrackInfo}
 
@@ -143,6 +144,7 @@ pub record IsOpenedAs (file : List ℕ) (m : MovieSeen) (t : FileTree) : Type 0 
   pub whole : m.file_len ≡ length file
   pub moov : moov_box m ≡ t.movie.moov
   pub longest_is : m.longest ≡ longest (of_kind (codes "moof") t.top)
+  pub moofs : m.moofs ≡ map (λ (b : Box). b.offset) (of_kind (codes "moof") t.top)
   -- for each track in order
   pub tables : AllZip (AreTablesOf m.moov) t.movie.tracks m.tables
   pub states : map track_seen m.states ≡ map (plain_seen (trexes_of t.movie)) t.movie.tracks
@@ -181,6 +183,7 @@ kept_of o moov file_length f = record {
   moov = moov;
   file_len = file_length;
   longest = o.longest;
+  moofs = map (λ (top : TopBox). top.offset) o.moofs.items;
   tables = f.plain.tables.items;
   states = f.plain.states.items;
   tracks = f.tracks.items;

@@ -22,7 +22,7 @@ pub mod totals;
 use crate::movie::Movie;
 use crate::opening::fragments::{Known, check_fragments};
 use crate::opening::limit_checks::{check_limits, duration_of};
-use crate::opening::outline::{Outline, read_outline};
+use crate::opening::outline::{Outline, offsets_of, read_outline};
 use crate::opening::tables_pass::{PlainTracks, check_tables};
 use crate::own_trafs::OwnTrafs;
 use crate::reading::read_bytes;
@@ -145,6 +145,7 @@ pub fn open_movie<S: Store, L: Ledger, M: Ledger>(
     let at = outline.moov.payload_offset();
     let moov = read_bytes(alloc, store, at, outline.moov.header.end - at)?;
     let file_len = store.len();
+    let moofs = offsets_of(alloc, outline.moofs.as_slice())?;
     let FoundTracks {
         plain,
         tracks,
@@ -157,6 +158,7 @@ pub fn open_movie<S: Store, L: Ledger, M: Ledger>(
         moov,
         file_len,
         longest: outline.longest,
+        moofs,
         tables,
         states,
         tracks,

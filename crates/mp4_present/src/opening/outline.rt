@@ -1,8 +1,9 @@
 //! Where the parts of a file lie, by its top-level headers alone.
-ghost use Rattle.std.specs.Prelude.{◌≡◌, ℕ, ◌+◌, ◌≤◌, ◌++◌, ◌∷◌, [], length, bytes_eq, IfOk, IfSome, IsTrue};
+ghost use Rattle.std.specs.Prelude.{◌≡◌, ℕ, ◌+◌, ◌≤◌, ◌++◌, ◌∷◌, [], length, map, bytes_eq, IfOk, IfSome, IsTrue};
 ghost use Rattle.std.specs.List.{AllByRecursion};
 ghost use Rattle.mp4_boxes.specs.declared.rule.Rule.TheVariants.{File};
 ghost use Rattle.mp4_boxes.specs.format.FirstFault.{FirstNamed, naming, top_tests};
+ghost use Rattle.mp4_present.specs.declared.reading.TopBox.{TopBox};
 ghost use Rattle.mp4_present.specs.words.TopJudged.{NamesTop};
 ghost use Rattle.mp4_present.specs.words.Movies.{IsWhole};
 ghost use Rattle.mp4_present.specs.words.Reading.{top_box};
@@ -15,7 +16,7 @@ ghost use Rattle.mp4_present.specs.words.StoresRead.{OnlyReads, RefusedOf};
 use crate::reading::{TopBox, read_top_header};
 use mp4_boxes::{Fault, FourCc, Kind, Refusal, Rule, TopHeader};
 use mp4_store::Store;
-use std::alloc::Global;
+use std::alloc::{AllocError, Global};
 
 pub(crate) const MOOF: FourCc = FourCc(*b"moof");
 
@@ -35,6 +36,17 @@ pub(crate) struct Outline {
     pub moofs: Vec<TopBox>,
     /// The length of the longest `moof`, 0 where there is none.
     pub longest: u64,
+}
+
+/// Where these boxes begin.
+pub(crate) fn offsets_of(alloc: Global, boxes: &[TopBox]) -> Result<Vec<u64>, AllocError>
+    ensures { IfOk result (λ v. v.items ≡ map (λ (b : TopBox). b.offset) boxes.now) }
+{
+    let mut offsets = Vec::with_capacity(alloc, boxes.len())?;
+    for k in 0..boxes.len() {
+        offsets.push(boxes[k].offset)?;
+    }
+    Ok(offsets)
 }
 
 /// Whether a type is this one.

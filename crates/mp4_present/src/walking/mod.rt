@@ -1,5 +1,5 @@
 //! A walk over all samples of a track: of its tables, then of each of its `traf`s.
-ghost use Rattle.std.specs.Prelude.{ℕ, ◌≡◌, ◌+◌, ◌-◌, ◌^◌, ◌<◌, ◌≤◌, min, List, [], length, false, Some, Err, slice_get, IfOk, IfErr, OnOk, IsTrue, MatchResult};
+ghost use Rattle.std.specs.Prelude.{ℕ, ◌≡◌, ◌+◌, ◌-◌, ◌^◌, ◌<◌, ◌≤◌, min, List, [], length, true, false, None, Some, is_some, Err, slice_get, IfOk, IfErr, OnOk, IsTrue, MatchResult};
 ghost use Rattle.mp4_head.specs.format.Tree.{TrackTree};
 ghost use Rattle.mp4_present.specs.format.Denotes.{FileTree};
 ghost use Rattle.mp4_present.specs.words.OpenedMovie.{IsOpenedAs};
@@ -14,6 +14,7 @@ ghost use Rattle.mp4_present.specs.words.StoresRead.{OnlyReads, Refused};
 ghost use Rattle.mp4_present.specs.words.TrackWalks.{CountsOff, HasInHand, HasTraf, IsLoaded, IsWalkStill, KeepsRoom, TakesSteps, WhereStands};
 ghost use Rattle.mp4_boxes.specs.declared.refusal.Refusal.TheVariants as refusals;
 
+pub mod fragment_number;
 pub mod going_back;
 pub mod in_hand;
 pub mod next_sample;
@@ -98,6 +99,7 @@ impl Movie {
         ensures may { IfOk result (λ walk. (file : List ℕ) (tree : FileTree) (t : TrackTree)
             → IsOpenedAs file self.now tree → slice_get tree.movie.tracks track ≡ Some t
             → (n : ℕ) × MayTake file tree t walk n × (n ≤ walk_steps tree t)) }
+        ensures begun { IfOk result (λ walk. (walk.next ≡ 0) × (walk.before ≡ None)) }
         ensures mark { IfOk result (λ walk. (info : TrackInfo)
             → slice_get self.now.tracks track ≡ Some info
             → walk.mark ≡ mark_of walk info.samples) }
@@ -241,6 +243,8 @@ impl Walk {
             (λ file tree t earlier later. (hand : InHand) → InHandOf movie.now self.old hand
             → left_in_hand hand ≡ []
             → IfOk result (λ more. more ≡ false → Comes file tree t movie.now self.new [])) }
+        ensures behind { IfOk result (λ more. IsTrue more → (self.new.next ≡ self.old.next + 1)
+            × (is_some self.new.before ≡ true)) }
         ensures grows { steps.old.passed ≤ steps.new.passed }
         ensures work { TakesSteps S.Store store.old movie.now self.old self.new result
             steps.old.passed steps.new.passed }

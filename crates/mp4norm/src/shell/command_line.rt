@@ -12,7 +12,7 @@ use crate::shell::lists::MOST_PARTS;
 use clap::error::ErrorKind;
 use clap::{ArgMatches, Error};
 use mp4_answers::box_names::Name;
-use mp4_answers::commands::compare::{Lines, Listing};
+use mp4_answers::commands::compare::{LineForm, Lines, Listing};
 use mp4_answers::jobs::{Form, Job, Syntax, VerdictStyle};
 use mp4_answers::selection::Selection;
 use mp4_answers::text::sum_lines::SumOf;
@@ -438,15 +438,23 @@ fn sum_asked<'a>(alloc: Global, found: &ArgMatches<'a>) -> Result<Action<'a>, Co
     Ok(check_asked(alloc, found, finding)?)
 }
 
+// In which form: a line says when its sample is decoded where more is to be explained.
+fn line_form_of(found: &ArgMatches) -> LineForm {
+    match syntax_of(found) {
+        Syntax::Text if found.get_flag("explain") => LineForm::Timed,
+        syntax => LineForm::of(syntax),
+    }
+}
+
 // How differences are to be told of.
 fn listing_of(found: &ArgMatches) -> Listing {
-    let syntax = syntax_of(found);
+    let form = line_form_of(found);
     if !has_any(found, &["all", "align"]) {
-        return Listing::First(syntax);
+        return Listing::First(form);
     }
     Listing::All(Lines {
         limit: found.get_one::<u32>("limit").unwrap_or(LIMIT),
-        syntax,
+        form,
         aligned: found.get_flag("align"),
     })
 }

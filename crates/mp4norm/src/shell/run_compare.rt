@@ -6,8 +6,7 @@ use crate::shell::foreign::{Opened, Told, lay_free};
 use crate::shell::reports::{NotedStream, Report, tells_more};
 use crate::shell::run_command::explain_refusal;
 use crate::shell::sources::{LaidSource, Source, open};
-use mp4_answers::commands::compare::{Asked, Failure, Listing, Side, compare_files};
-use mp4_answers::jobs::Syntax;
+use mp4_answers::commands::compare::{Asked, Failure, LineForm, Listing, Side, compare_files};
 use mp4_answers::text::fault_text::fault_line;
 use mp4_boxes::{Refusal, Steps};
 use mp4_store::IoSink;
@@ -175,7 +174,10 @@ fn answer_of<L: Ledger, M: Ledger>(
 // Names the option that says which samples one file has alone, where the one difference that is
 // told is that they are not as many.
 fn hint(rt: &HostRuntime, asked: ComparedInputs, answer: &Result<bool, Failure>, report: &Report) {
-    let is_line = matches!(asked.listing, Listing::First(Syntax::Text));
+    let is_line = matches!(
+        asked.listing,
+        Listing::First(LineForm::Text | LineForm::Timed)
+    );
     let differ = matches!(answer, Ok(false));
     if is_line && differ && report.is_uneven() && tells_more(rt, asked.telling) {
         let _ = rt.stderr().write_all(ALIGN_HINT);

@@ -18,11 +18,13 @@ use Rattle.mp4_answers.specs.declared.jobs.Syntax.{Syntax}
 use Rattle.mp4_answers.specs.declared.jobs.Syntax.TheVariants as syntaxes
 use Rattle.mp4_answers.specs.declared.commands.compare.Asked.{Asked}
 use Rattle.mp4_answers.specs.declared.commands.compare.Listing.{Listing}
+use Rattle.mp4_answers.specs.declared.commands.compare.LineForm.{LineForm}
+use Rattle.mp4_answers.specs.declared.commands.compare.LineForm.TheVariants as line_forms
 use Rattle.mp4_answers.specs.declared.commands.compare.Lines.{Lines}
 use Rattle.mp4_answers.specs.declared.commands.compare.Listing.TheVariants as listings
 use Rattle.mp4_answers.specs.format.Answers.{IsFaultOf}
 use Rattle.mp4_answers.specs.format.BoxWalk.{under, FaultSeen}
-use Rattle.mp4_answers.specs.format.CompareHeadline.{IsVerdict, IsTold, of_first, of_second}
+use Rattle.mp4_answers.specs.format.CompareHeadline.{IsVerdict, IsTold, line_form, of_first, of_second}
 use Rattle.mp4_answers.specs.format.DifferenceObject.{last_object}
 use Rattle.mp4_answers.specs.format.FileTexts.{ShowsLine, ListsSamples, HasData, PrintsText}
 use Rattle.mp4_answers.specs.format.Selected.{LacksNamed, LacksTrack, whole}
@@ -136,13 +138,14 @@ abbrev pub fields_job : ℕ → Option Syntax → Option Job
 fields_job rows = option_map (λ syntax. jobs.Fields syntax rows)
 
 abbrev pub told_lines : ℕ → Syntax → Bool → Lines
-told_lines limit syntax aligned = record { limit = limit; syntax = syntax; aligned = aligned }
+told_lines limit syntax aligned =
+    record { limit = limit; form = line_form syntax; aligned = aligned }
 
 -- How two files are told of that differ: by the first difference, or by all, of which at most so
 -- many are listed, where tracks are aligned or not; in this syntax.
 abbrev pub listing_of : ℕ → ℕ → Option Syntax → Option Listing
 listing_of number limit None = None
-listing_of number limit (Some syntax) = if number == 0 then Some (listings.First syntax)
+listing_of number limit (Some syntax) = if number == 0 then Some (listings.First (line_form syntax))
     else (if number == 1 then Some (listings.All (told_lines limit syntax false))
     else (if number == 2 then Some (listings.All (told_lines limit syntax true)) else None))
 
@@ -159,7 +162,7 @@ asked_of (Some l) (Some listing) = Some (record {
 
 -- by the first difference as a line
 abbrev pub first_asked : ℕ → Option Asked
-first_asked words = asked_of (without_of words) (Some (listings.First syntaxes.Text))
+first_asked words = asked_of (without_of words) (Some (listings.First (line_form syntaxes.Text)))
 
 abbrev pub comparison_asked : Comparison → Option Asked
 comparison_asked c = asked_of (without_of c.words)
@@ -262,13 +265,13 @@ Measures (Some l) file a = (result : Result ℕ Refusal) × (a ≡ told result)
 
 -- what is put of files that are the same: nothing, or as JSON of all differences that there are
 -- none
-abbrev pub same_in : Syntax → Without → List ℕ
-same_in syntaxes.Text l = []
-same_in syntaxes.Json l = last_object true [] (Some l)
+abbrev pub same_in : LineForm → Without → List ℕ
+same_in line_forms.Json l = last_object true [] (Some l)
+same_in _ l = []
 
 abbrev pub same_listed : Listing → Without → List ℕ
-same_listed (listings.First syntax) l = []
-same_listed (listings.All lines) l = same_in lines.syntax l
+same_listed (listings.First form) l = []
+same_listed (listings.All lines) l = same_in lines.form l
 
 abbrev pub same_text : Asked → List ℕ
 same_text asked = same_listed asked.listing asked.leaving

@@ -54,3 +54,9 @@ pub returns-in_err-scales-clause-unchanged : goal.returns-in_err-scales-clause-u
 returns-in_err-scales-clause-unchanged g c told told_right tree other o q =
     let p = err_from_is_err_and c.from_residual.result c.from_residual.ensures.1 in
     rw (p.1, p.2) (c.in_err-scales.ensures.unchanged told told_right tree other o q)
+
+pub returns-clause-timed : goal.returns-clause-timed
+returns-clause-timed g c told told_right tree other o p =
+    let e = c.in_ok-scales.ensures in
+    let s = e.scales told told_right tree other o p in
+    (rw (e.stores.left.honesty, e.stores.left.file, e.stores.right.honesty, e.stores.right.file) at c.compare_scaled.ensures.timed) told told_right tree other o p s.0 s.1

@@ -4,6 +4,8 @@ use Rattle.std.proofs.lemmas.Result.{err_from_is_err_and}
 use Rattle.mp4_present.specs.words.OpenedMovie.{IsOpenedAs}
 use Rattle.mp4_present.specs.words.WalkSteps.{walk_steps}
 use Rattle.mp4_content.specs.words.Compared.{TakesFront, tracks_differ}
+use Rattle.mp4_present.specs.format.Denotes.{presentation_of}
+use Rattle.mp4_content.proofs.TimesTaken.{movie_untimed}
 use Rattle.mp4_content.proofs.TracksCompared.{takes_nothing}
 use Rattle.mp4_content.proofs.MeasuredTracks.{own_divisor_at}
 use Rattle.mp4_content.proofs.RemainingHeads.{says_remaining}
@@ -117,6 +119,10 @@ loop-track-init g c = record {
       let other_says = says_remaining c.args.by.leaving right_file other c.args.movies.now.right c.args.by.scales.now.right c.in_ok-other_read.other_read c.in_ok-other_head.other_head p are_right c.in_ok-other_read.ensures c.in_ok-other_head.ensures.movie c.in_ok-other_head.ensures.tracks in
       let begun = movie_begun c.args.by.aligned c.args.by.leaving file right_file tree other c.in_ok-head.head c.in_ok-other_head.other_head says other_says c.in_ok-found.found.items c.in_ok-found.ensures in
       files_first c.args.by.aligned c.args.by.leaving file tree right_file other (g.D.Differences.taken c.args.seen.now) c.args.steps.now.passed (g.D.Differences.taken c.hand_over.new.seen) c.in_ok-found.found.items begun ((rw c.as_slice-3.ensures.value at c.if-not-hand_over.ensures.all) refl);
+  timed = λ told told_right tree other o p are are_right before.
+      let file = g.S.Store.file c.args.left.now in
+      let untimed = movie_untimed (presentation_of file tree) c.in_ok-head.head c.in_ok-other_head.other_head c.in_ok-found.found.items c.in_ok-found.ensures in
+      (rw c.as_slice-3.ensures.value at c.hand_over.ensures.timed) (presentation_of file tree) untimed before;
 }
 
 pub returns-in_err-compare_tracks-clause-stores : goal.returns-in_err-compare_tracks-clause-stores
@@ -256,6 +262,16 @@ loop-track-preserved g c = record {
       (λ q r v w. c.in_ok-compare_tracks.ensures.handed.all c.if-not-branch.false q r tree other v w t.0 u.0 t.1 u.1) told told_right o p)
       (of_same (λ x y. c.compare_tracks.new.steps.passed ≤ c.loop-track.steps.passed + (walk_steps tree t.0 + walk_steps other u.0)) c.args.movies.now.left c.args.movies.now.right tree other _ _ _ _ _ _ _ _ i.honesty i.file i.honesty_right i.file_right
       (λ q r v w. c.in_ok-compare_tracks.ensures.work q r tree other v w t.0 u.0 t.1 u.1) told told_right o p);
+  timed = λ told told_right tree other o p are are_right before.
+      let i = c.loop-track.invariant in
+      let file = g.S.Store.file c.args.left.now in
+      let right_file = g.T.Store.file c.args.right.now in
+      let track = c.loop-track.track in
+      let says = says_remaining c.args.by.leaving file tree c.args.movies.now.left c.args.by.scales.now.left c.in_ok-read.read c.in_ok-head.head o are c.in_ok-read.ensures c.in_ok-head.ensures.movie c.in_ok-head.ensures.tracks in
+      let other_says = says_remaining c.args.by.leaving right_file other c.args.movies.now.right c.args.by.scales.now.right c.in_ok-other_read.other_read c.in_ok-other_head.other_head p are_right c.in_ok-other_read.ensures c.in_ok-other_head.ensures.movie c.in_ok-other_head.ensures.tracks in
+      let t = track_at c.args.by.leaving file tree c.in_ok-head.head says track c.index-first.result.now (search rules) (search rules) in
+      let u = track_at c.args.by.leaving right_file other c.in_ok-other_head.other_head other_says track c.index-second.result.now (search rules) (search rules) in
+      (rw (i.honesty, i.file, i.honesty_right, i.file_right) at c.in_ok-compare_tracks.ensures.timed) told told_right tree other o p t.0 u.0 t.1 u.1 (i.timed told told_right tree other o p are are_right before);
 }
 
 pub returns-clause-handed : goal.returns-clause-handed
@@ -293,3 +309,33 @@ returns-clause-work g c told told_right tree other o p are are_right =
     let now = g.D.Differences.taken c.loop-track.seen in
     let h = i.going told told_right tree other o p are are_right in
     files_work c.args.by.aligned c.args.by.leaving file tree right_file other before c.args.steps.now.passed c.loop-track.track now c.loop-track.steps.passed h
+
+pub returns-then-not-hand_over-clause-timed : goal.returns-then-not-hand_over-clause-timed
+returns-then-not-hand_over-clause-timed g c told told_right tree other o p are are_right before =
+    let file = g.S.Store.file c.args.left.now in
+    let untimed = movie_untimed (presentation_of file tree) c.in_ok-head.head c.in_ok-other_head.other_head c.in_ok-found.found.items c.in_ok-found.ensures in
+    (rw c.as_slice-3.ensures.value at c.hand_over.ensures.timed) (presentation_of file tree) untimed before
+
+pub returns-in_err-compare_tracks-clause-timed : goal.returns-in_err-compare_tracks-clause-timed
+returns-in_err-compare_tracks-clause-timed g c told told_right tree other o p are are_right before =
+    let i = c.loop-track.invariant in
+    let file = g.S.Store.file c.args.left.now in
+    let right_file = g.T.Store.file c.args.right.now in
+    let track = c.loop-track.track in
+    let says = says_remaining c.args.by.leaving file tree c.args.movies.now.left c.args.by.scales.now.left c.in_ok-read.read c.in_ok-head.head o are c.in_ok-read.ensures c.in_ok-head.ensures.movie c.in_ok-head.ensures.tracks in
+    let other_says = says_remaining c.args.by.leaving right_file other c.args.movies.now.right c.args.by.scales.now.right c.in_ok-other_read.other_read c.in_ok-other_head.other_head p are_right c.in_ok-other_read.ensures c.in_ok-other_head.ensures.movie c.in_ok-other_head.ensures.tracks in
+    let t = track_at c.args.by.leaving file tree c.in_ok-head.head says track c.index-first.result.now (search rules) (search rules) in
+    let u = track_at c.args.by.leaving right_file other c.in_ok-other_head.other_head other_says track c.index-second.result.now (search rules) (search rules) in
+    (rw (i.honesty, i.file, i.honesty_right, i.file_right) at c.in_err-compare_tracks.ensures.timed) told told_right tree other o p t.0 u.0 t.1 u.1 (i.timed told told_right tree other o p are are_right before)
+
+pub returns-then-not-branch-clause-timed : goal.returns-then-not-branch-clause-timed
+returns-then-not-branch-clause-timed g c told told_right tree other o p are are_right before =
+    let i = c.loop-track.invariant in
+    let file = g.S.Store.file c.args.left.now in
+    let right_file = g.T.Store.file c.args.right.now in
+    let track = c.loop-track.track in
+    let says = says_remaining c.args.by.leaving file tree c.args.movies.now.left c.args.by.scales.now.left c.in_ok-read.read c.in_ok-head.head o are c.in_ok-read.ensures c.in_ok-head.ensures.movie c.in_ok-head.ensures.tracks in
+    let other_says = says_remaining c.args.by.leaving right_file other c.args.movies.now.right c.args.by.scales.now.right c.in_ok-other_read.other_read c.in_ok-other_head.other_head p are_right c.in_ok-other_read.ensures c.in_ok-other_head.ensures.movie c.in_ok-other_head.ensures.tracks in
+    let t = track_at c.args.by.leaving file tree c.in_ok-head.head says track c.index-first.result.now (search rules) (search rules) in
+    let u = track_at c.args.by.leaving right_file other c.in_ok-other_head.other_head other_says track c.index-second.result.now (search rules) (search rules) in
+    (rw (i.honesty, i.file, i.honesty_right, i.file_right) at c.in_ok-compare_tracks.ensures.timed) told told_right tree other o p t.0 u.0 t.1 u.1 (i.timed told told_right tree other o p are are_right before)

@@ -6,7 +6,9 @@ use Rattle.mp4_content.specs.declared.comparing.differences.Difference.{Differen
 use Rattle.mp4_content.specs.declared.file_window.FileWindow.{FileWindow}
 use Rattle.mp4_present.proofs.TrafTaken.{at_place}
 use Rattle.mp4_content.proofs.PairsCompared.{both_most}
+use Rattle.mp4_present.specs.format.Denotes.{presentation_of}
 use Rattle.mp4_content.proofs.MeasuredTracks.{count_is}
+use Rattle.mp4_content.proofs.TimesTaken.{pair_timed}
 use Rattle.mp4_content.proofs.SamplesShifted.{differ_behind}
 use Rattle.mp4_content.proofs.TracksCompared.{takes_nothing, grows_front, rest_lies, pairs_first, pairs_pass, pairs_moved, pairs_next, pairs_stop, pairs_most, pairs_work, pairs_all, min_over}
 use Rattle.mp4_content.proofs.comparing.compare_track_samples.Goals as goal
@@ -45,6 +47,7 @@ loop-number-init g c =
       going = λ told told_right tree other o p t u at bt.
           pairs_first c.in_ok-by.by (g.S.Store.file c.args.left.now) tree t c.args.tracks.movies.now.left (g.T.Store.file c.args.right.now) other u c.args.tracks.movies.now.right (g.D.Differences.taken c.args.seen.now) c.args.steps.now.passed c.args.tracks.leaving c.args.tracks.divisors
           c.in_ok-by.sides.left.walk c.in_ok-by.sides.right.walk c.begin_pairs.new.steps.passed (e.begun told told_right tree other o p t u at bt);
+      timed = λ told told_right tree other o p t u at bt before. before;
     }
 
 pub loop-number-preserved-then-passed : goal.loop-number-preserved-then-passed
@@ -74,13 +77,15 @@ loop-number-preserved-then-passed g c = record {
       let now = g.D.Differences.taken c.loop-number.seen in
       let passed = c.pass_same-passed in
       let number = c.loop-number.number + passed.result.count in
-      let h = pairs_pass by file tree t left right_file other u right before c.args.steps.now.passed c.loop-number.number passed.result.count c.loop-number.sides.left passed.new.sides.left c.loop-number.sides.right passed.new.sides.right now c.loop-number.steps.passed passed.new.steps.passed
+      let h = pairs_pass by file tree t left right_file other u right before c.args.steps.now.passed c.loop-number.number
+      passed.result.count c.loop-number.sides.left passed.new.sides.left c.loop-number.sides.right passed.new.sides.right now c.loop-number.steps.passed passed.new.steps.passed
       o p (i.shows told) (i.shows_right told_right) passed.ensures.passed (i.going told told_right tree other o p t u at bt) in
       let w = passed.new.sides.left.walk in
       let v = passed.new.sides.right.walk in
       pairs_moved by file tree t left right_file other u right before c.args.steps.now.passed number w v c.refill_both.new.sides.left.walk c.refill_both.new.sides.right.walk now passed.new.steps.passed c.refill_both.new.steps.passed h
       ((rw (i.honesty, i.file, i.honesty_right, i.file_right) at c.in_ok-_same.ensures.coming) told told_right tree other o p t u _ _ h.comes h.comes_right)
       (λ q r hx hy. (rw (i.honesty, i.file, i.honesty_right, i.file_right) at c.in_ok-_same.ensures.work) told told_right tree other o p t u q r hx hy);
+  timed = c.loop-number.invariant.timed;
 }
 
 pub returns-in_err-_same-clause-handed : goal.returns-in_err-_same-clause-handed
@@ -99,7 +104,8 @@ returns-in_err-_same-clause-handed g c =
           let now = g.D.Differences.taken c.loop-number.seen in
           let passed = c.pass_same-passed in
           let number = c.loop-number.number + passed.result.count in
-          let h = pairs_pass by file tree t left right_file other u right before c.args.steps.now.passed c.loop-number.number passed.result.count c.loop-number.sides.left passed.new.sides.left c.loop-number.sides.right passed.new.sides.right now c.loop-number.steps.passed passed.new.steps.passed
+          let h = pairs_pass by file tree t left right_file other u right before c.args.steps.now.passed c.loop-number.number
+          passed.result.count c.loop-number.sides.left passed.new.sides.left c.loop-number.sides.right passed.new.sides.right now c.loop-number.steps.passed passed.new.steps.passed
           o p (i.shows told) (i.shows_right told_right) passed.ensures.passed (i.going told told_right tree other o p t u at bt) in
           let info = c.index-tracks-place.result in
           let other_info = c.index-tracks-place-2.result in
@@ -124,7 +130,8 @@ returns-in_err-_same-clause-unchanged g c told told_right tree other o p t u at 
     let now = g.D.Differences.taken c.loop-number.seen in
     let passed = c.pass_same-passed in
     let number = c.loop-number.number + passed.result.count in
-    let h = pairs_pass by file tree t left right_file other u right before c.args.steps.now.passed c.loop-number.number passed.result.count c.loop-number.sides.left passed.new.sides.left c.loop-number.sides.right passed.new.sides.right now c.loop-number.steps.passed passed.new.steps.passed
+    let h = pairs_pass by file tree t left right_file other u right before c.args.steps.now.passed c.loop-number.number
+    passed.result.count c.loop-number.sides.left passed.new.sides.left c.loop-number.sides.right passed.new.sides.right now c.loop-number.steps.passed passed.new.steps.passed
     o p (i.shows told) (i.shows_right told_right) passed.ensures.passed (i.going told told_right tree other o p t u at bt) in
     let info = c.index-tracks-place.result in
     let other_info = c.index-tracks-place-2.result in
@@ -150,7 +157,8 @@ returns-in_err-_same-clause-work g c told told_right tree other o p t u at bt =
     let now = g.D.Differences.taken c.loop-number.seen in
     let passed = c.pass_same-passed in
     let number = c.loop-number.number + passed.result.count in
-    let h = pairs_pass by file tree t left right_file other u right before c.args.steps.now.passed c.loop-number.number passed.result.count c.loop-number.sides.left passed.new.sides.left c.loop-number.sides.right passed.new.sides.right now c.loop-number.steps.passed passed.new.steps.passed
+    let h = pairs_pass by file tree t left right_file other u right before c.args.steps.now.passed c.loop-number.number
+    passed.result.count c.loop-number.sides.left passed.new.sides.left c.loop-number.sides.right passed.new.sides.right now c.loop-number.steps.passed passed.new.steps.passed
     o p (i.shows told) (i.shows_right told_right) passed.ensures.passed (i.going told told_right tree other o p t u at bt) in
     let w = passed.new.sides.left.walk in
     let v = passed.new.sides.right.walk in
@@ -185,14 +193,40 @@ loop-number-preserved-else-passed g c = record {
       let now = g.D.Differences.taken c.loop-number.seen in
       let passed = c.pass_same-passed in
       let number = c.loop-number.number + passed.result.count in
-      let h = pairs_pass by file tree t left right_file other u right before c.args.steps.now.passed c.loop-number.number passed.result.count c.loop-number.sides.left passed.new.sides.left c.loop-number.sides.right passed.new.sides.right now c.loop-number.steps.passed passed.new.steps.passed
+      let h = pairs_pass by file tree t left right_file other u right before c.args.steps.now.passed c.loop-number.number
+      passed.result.count c.loop-number.sides.left passed.new.sides.left c.loop-number.sides.right passed.new.sides.right now c.loop-number.steps.passed passed.new.steps.passed
       o p (i.shows told) (i.shows_right told_right) passed.ensures.passed (i.going told told_right tree other o p t u at bt) in
       let w = passed.new.sides.left.walk in
       let v = passed.new.sides.right.walk in
       pairs_next by file tree t left right_file other u right before c.args.steps.now.passed number w v c.compare_pair.new.sides.left.walk c.compare_pair.new.sides.right.walk now
-      (g.D.Differences.taken c.hand_over.new.seen) c.in_ok-found.found.items passed.new.steps.passed c.compare_pair.new.steps.passed h
+      (g.D.Differences.taken c.hand_over.new.seen) c.in_ok-found.found.differences.items passed.new.steps.passed c.compare_pair.new.steps.passed h
       ((rw (i.honesty, i.file, i.honesty_right, i.file_right) at c.in_ok-found.ensures.found) told told_right tree other o p t u _ _ h.comes h.comes_right) ((rw c.as_slice.ensures.value at c.if-not-hand_over.ensures.all) refl)
       (λ q r hx hy. (rw (i.honesty, i.file, i.honesty_right, i.file_right) at c.in_ok-found.ensures.work) told told_right tree other o p t u q r hx hy);
+  timed = λ told told_right tree other o p t u at bt before.
+      let i = c.loop-number.invariant in
+      let file = g.S.Store.file c.args.left.now in
+      let right_file = g.T.Store.file c.args.right.now in
+      let left = c.args.tracks.movies.now.left in
+      let right = c.args.tracks.movies.now.right in
+      let by = c.in_ok-by.by in
+      let now = g.D.Differences.taken c.loop-number.seen in
+      let passed = c.pass_same-passed in
+      let number = c.loop-number.number + passed.result.count in
+      let h = pairs_pass by file tree t left right_file other u right (g.D.Differences.taken c.args.seen.now) c.args.steps.now.passed c.loop-number.number
+      passed.result.count c.loop-number.sides.left passed.new.sides.left c.loop-number.sides.right passed.new.sides.right now c.loop-number.steps.passed passed.new.steps.passed
+      o p (i.shows told) (i.shows_right told_right) passed.ensures.passed (i.going told told_right tree other o p t u at bt) in
+      let info = c.index-tracks-place.result in
+      let other_info = c.index-tracks-place-2.result in
+      let is : info ≡ slice_index_or left.tracks c.args.tracks.place info = search rules in
+      let is_right : other_info ≡ slice_index_or right.tracks c.args.tracks.place other_info = search rules in
+      let there = at_place left.tracks c.args.tracks.place info c.requires.tracks.left is in
+      let there_right = at_place right.tracks c.args.tracks.place other_info c.requires.tracks.right is_right in
+      let lt : number < info.samples = search rules in
+      let taken = (rw (i.honesty, i.file, i.honesty_right, i.file_right) at c.in_ok-found.ensures.found) told told_right tree other o p t u _ _ h.comes h.comes_right in
+      let due_then = (rw (i.honesty, i.file, i.honesty_right, i.file_right) at c.in_ok-found.ensures.time) told told_right tree other o p t u _ _ h.comes h.comes_right in
+      (rw c.as_slice.ensures.value at c.hand_over.ensures.timed) (presentation_of file tree)
+      (pair_timed file left tree t c.args.tracks.place info o at there by right_file number c.in_ok-found.found.time taken.0 taken.1 c.in_ok-found.found.differences.items (c.in_ok-by.ensures.pairing info other_info there there_right).number lt taken.4 due_then)
+      (i.timed told told_right tree other o p t u at bt before);
 }
 
 pub loop-number-preserved : goal.loop-number-preserved
@@ -220,6 +254,7 @@ loop-number-preserved g c =
           pairs_pass c.in_ok-by.by file tree t c.args.tracks.movies.now.left right_file other u c.args.tracks.movies.now.right (g.D.Differences.taken c.args.seen.now)
           c.args.steps.now.passed c.loop-number.number c.pass_same-passed.result.count c.loop-number.sides.left c.pass_same-passed.new.sides.left c.loop-number.sides.right c.pass_same-passed.new.sides.right
           (g.D.Differences.taken c.loop-number.seen) c.loop-number.steps.passed c.pass_same-passed.new.steps.passed o p (i.shows told) (i.shows_right told_right) e (i.going told told_right tree other o p t u at bt);
+      timed = i.timed;
     }
 
 pub returns-in_err-found-clause-handed : goal.returns-in_err-found-clause-handed
@@ -238,7 +273,8 @@ returns-in_err-found-clause-handed g c =
           let now = g.D.Differences.taken c.loop-number.seen in
           let passed = c.pass_same-passed in
           let number = c.loop-number.number + passed.result.count in
-          let h = pairs_pass by file tree t left right_file other u right before c.args.steps.now.passed c.loop-number.number passed.result.count c.loop-number.sides.left passed.new.sides.left c.loop-number.sides.right passed.new.sides.right now c.loop-number.steps.passed passed.new.steps.passed
+          let h = pairs_pass by file tree t left right_file other u right before c.args.steps.now.passed c.loop-number.number
+          passed.result.count c.loop-number.sides.left passed.new.sides.left c.loop-number.sides.right passed.new.sides.right now c.loop-number.steps.passed passed.new.steps.passed
           o p (i.shows told) (i.shows_right told_right) passed.ensures.passed (i.going told told_right tree other o p t u at bt) in
           let info = c.index-tracks-place.result in
           let other_info = c.index-tracks-place-2.result in
@@ -263,7 +299,8 @@ returns-in_err-found-clause-unchanged g c told told_right tree other o p t u at 
     let now = g.D.Differences.taken c.loop-number.seen in
     let passed = c.pass_same-passed in
     let number = c.loop-number.number + passed.result.count in
-    let h = pairs_pass by file tree t left right_file other u right before c.args.steps.now.passed c.loop-number.number passed.result.count c.loop-number.sides.left passed.new.sides.left c.loop-number.sides.right passed.new.sides.right now c.loop-number.steps.passed passed.new.steps.passed
+    let h = pairs_pass by file tree t left right_file other u right before c.args.steps.now.passed c.loop-number.number
+    passed.result.count c.loop-number.sides.left passed.new.sides.left c.loop-number.sides.right passed.new.sides.right now c.loop-number.steps.passed passed.new.steps.passed
     o p (i.shows told) (i.shows_right told_right) passed.ensures.passed (i.going told told_right tree other o p t u at bt) in
     let info = c.index-tracks-place.result in
     let other_info = c.index-tracks-place-2.result in
@@ -289,7 +326,8 @@ returns-in_err-found-clause-work g c told told_right tree other o p t u at bt =
     let now = g.D.Differences.taken c.loop-number.seen in
     let passed = c.pass_same-passed in
     let number = c.loop-number.number + passed.result.count in
-    let h = pairs_pass by file tree t left right_file other u right before c.args.steps.now.passed c.loop-number.number passed.result.count c.loop-number.sides.left passed.new.sides.left c.loop-number.sides.right passed.new.sides.right now c.loop-number.steps.passed passed.new.steps.passed
+    let h = pairs_pass by file tree t left right_file other u right before c.args.steps.now.passed c.loop-number.number
+    passed.result.count c.loop-number.sides.left passed.new.sides.left c.loop-number.sides.right passed.new.sides.right now c.loop-number.steps.passed passed.new.steps.passed
     o p (i.shows told) (i.shows_right told_right) passed.ensures.passed (i.going told told_right tree other o p t u at bt) in
     let w = passed.new.sides.left.walk in
     let v = passed.new.sides.right.walk in
@@ -313,7 +351,8 @@ returns-then-not-hand_over-clause-handed g c =
           let now = g.D.Differences.taken c.loop-number.seen in
           let passed = c.pass_same-passed in
           let number = c.loop-number.number + passed.result.count in
-          let h = pairs_pass by file tree t left right_file other u right before c.args.steps.now.passed c.loop-number.number passed.result.count c.loop-number.sides.left passed.new.sides.left c.loop-number.sides.right passed.new.sides.right now c.loop-number.steps.passed passed.new.steps.passed
+          let h = pairs_pass by file tree t left right_file other u right before c.args.steps.now.passed c.loop-number.number
+          passed.result.count c.loop-number.sides.left passed.new.sides.left c.loop-number.sides.right passed.new.sides.right now c.loop-number.steps.passed passed.new.steps.passed
           o p (i.shows told) (i.shows_right told_right) passed.ensures.passed (i.going told told_right tree other o p t u at bt) in
           let w = passed.new.sides.left.walk in
           let v = passed.new.sides.right.walk in
@@ -327,7 +366,7 @@ returns-then-not-hand_over-clause-handed g c =
           let are = differ_behind c.args.tracks.leaving c.args.tracks.divisors.left c.args.tracks.divisors.right c.args.tracks.place by file right_file left right tree other t u info other_info (c.in_ok-by.ensures.pairing info other_info there there_right) o p at bt there there_right begun 0 0 1 in
           subst (TakesFront before (g.D.Differences.taken c.hand_over.new.seen)) are
           (pairs_stop by file tree t left right_file other u right before c.args.steps.now.passed number w v c.compare_pair.new.sides.left.walk c.compare_pair.new.sides.right.walk now
-          (g.D.Differences.taken c.hand_over.new.seen) c.in_ok-found.found.items passed.new.steps.passed h
+          (g.D.Differences.taken c.hand_over.new.seen) c.in_ok-found.found.differences.items passed.new.steps.passed h
           ((rw (i.honesty, i.file, i.honesty_right, i.file_right) at c.in_ok-found.ensures.found) told told_right tree other o p t u _ _ h.comes h.comes_right) (rw c.as_slice.ensures.value at c.hand_over.ensures.front));
     }
 
@@ -343,13 +382,41 @@ returns-then-not-hand_over-clause-work g c told told_right tree other o p t u at
     let now = g.D.Differences.taken c.loop-number.seen in
     let passed = c.pass_same-passed in
     let number = c.loop-number.number + passed.result.count in
-    let h = pairs_pass by file tree t left right_file other u right before c.args.steps.now.passed c.loop-number.number passed.result.count c.loop-number.sides.left passed.new.sides.left c.loop-number.sides.right passed.new.sides.right now c.loop-number.steps.passed passed.new.steps.passed
+    let h = pairs_pass by file tree t left right_file other u right before c.args.steps.now.passed c.loop-number.number
+    passed.result.count c.loop-number.sides.left passed.new.sides.left c.loop-number.sides.right passed.new.sides.right now c.loop-number.steps.passed passed.new.steps.passed
     o p (i.shows told) (i.shows_right told_right) passed.ensures.passed (i.going told told_right tree other o p t u at bt) in
     let w = passed.new.sides.left.walk in
     let v = passed.new.sides.right.walk in
     pairs_most by file tree t left right_file other u right before c.args.steps.now.passed number w v now passed.new.steps.passed c.compare_pair.new.steps.passed h
     (λ q r hx hy. both_most file tree t c.compare_pair.new.sides.left.walk right_file other u c.compare_pair.new.sides.right.walk _ passed.new.steps.passed c.compare_pair.new.steps.passed
     ((rw (i.honesty, i.file, i.honesty_right, i.file_right) at c.in_ok-found.ensures.work) told told_right tree other o p t u q r hx hy))
+
+pub returns-then-not-hand_over-clause-timed : goal.returns-then-not-hand_over-clause-timed
+returns-then-not-hand_over-clause-timed g c told told_right tree other o p t u at bt before =
+    let i = c.loop-number.invariant in
+    let file = g.S.Store.file c.args.left.now in
+    let right_file = g.T.Store.file c.args.right.now in
+    let left = c.args.tracks.movies.now.left in
+    let right = c.args.tracks.movies.now.right in
+    let by = c.in_ok-by.by in
+    let now = g.D.Differences.taken c.loop-number.seen in
+    let passed = c.pass_same-passed in
+    let number = c.loop-number.number + passed.result.count in
+    let h = pairs_pass by file tree t left right_file other u right (g.D.Differences.taken c.args.seen.now) c.args.steps.now.passed c.loop-number.number
+    passed.result.count c.loop-number.sides.left passed.new.sides.left c.loop-number.sides.right passed.new.sides.right now c.loop-number.steps.passed passed.new.steps.passed
+    o p (i.shows told) (i.shows_right told_right) passed.ensures.passed (i.going told told_right tree other o p t u at bt) in
+    let info = c.index-tracks-place.result in
+    let other_info = c.index-tracks-place-2.result in
+    let is : info ≡ slice_index_or left.tracks c.args.tracks.place info = search rules in
+    let is_right : other_info ≡ slice_index_or right.tracks c.args.tracks.place other_info = search rules in
+    let there = at_place left.tracks c.args.tracks.place info c.requires.tracks.left is in
+    let there_right = at_place right.tracks c.args.tracks.place other_info c.requires.tracks.right is_right in
+    let lt : number < info.samples = search rules in
+    let taken = (rw (i.honesty, i.file, i.honesty_right, i.file_right) at c.in_ok-found.ensures.found) told told_right tree other o p t u _ _ h.comes h.comes_right in
+    let due_then = (rw (i.honesty, i.file, i.honesty_right, i.file_right) at c.in_ok-found.ensures.time) told told_right tree other o p t u _ _ h.comes h.comes_right in
+    (rw c.as_slice.ensures.value at c.hand_over.ensures.timed) (presentation_of file tree)
+    (pair_timed file left tree t c.args.tracks.place info o at there by right_file number c.in_ok-found.found.time taken.0 taken.1 c.in_ok-found.found.differences.items (c.in_ok-by.ensures.pairing info other_info there there_right).number lt taken.4 due_then)
+    (i.timed told told_right tree other o p t u at bt before)
 
 pub returns-clause-handed : goal.returns-clause-handed
 returns-clause-handed g c =

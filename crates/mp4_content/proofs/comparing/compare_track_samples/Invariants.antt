@@ -2,11 +2,13 @@ use Rattle.std.proofs.Common.{◌≡◌, ◌-◌, ◌≤◌, true}
 use Rattle.std.specs.Prelude.{IsTrue}
 use Rattle.mp4_content.specs.words.Compared.{WhereBothOpened, AtTracks}
 use Rattle.mp4_present.specs.words.Movies.{IsWalkOf}
+use Rattle.mp4_present.specs.format.Denotes.{presentation_of}
+use Rattle.mp4_content.specs.words.TimesTaken.{KeepsTimes}
 use Rattle.mp4_content.specs.words.Windows.{Shows}
 use Rattle.mp4_content.proofs.TracksCompared.{PairsGo}
 use Rattle.mp4_content.proofs.comparing.compare_track_samples.Given as goal
 
--- both walks go on, both windows show their files, a further difference is taken, and what differs in front was taken
+-- both walks go on, both windows show their files, a further difference is taken, and what differs in front was taken, along with decode times
 abbrev pub invariant-loop-number : goal.invariant-loop-number
 invariant-loop-number g l = record {
   within : l.number ≤ l.count;
@@ -26,6 +28,8 @@ invariant-loop-number g l = record {
   going : WhereBothOpened (g.S.Store.is_honest l.fn.left) (g.S.Store.file l.fn.left) l.movies.left (g.T.Store.is_honest l.fn.right) (g.T.Store.file l.fn.right) l.movies.right
       (λ tree other. AtTracks l.place tree other (λ t u.
       PairsGo l.by (g.S.Store.file l.fn.left) tree t l.movies.left (g.T.Store.file l.fn.right) other u l.movies.right l.number l.sides.left.walk l.sides.right.walk (g.D.Differences.taken l.fn.seen) (g.D.Differences.taken l.seen) l.fn.steps.passed l.steps.passed));
+  timed : WhereBothOpened (g.S.Store.is_honest l.fn.left) (g.S.Store.file l.fn.left) l.movies.left (g.T.Store.is_honest l.fn.right) (g.T.Store.file l.fn.right) l.movies.right
+      (λ tree other. AtTracks l.place tree other (λ t u. KeepsTimes g.D.Differences l.fn.seen l.seen (presentation_of (g.S.Store.file l.fn.left) tree)));
 }
 
 abbrev pub decreases-loop-number : goal.decreases-loop-number

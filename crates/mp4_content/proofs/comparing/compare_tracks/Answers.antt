@@ -1,6 +1,8 @@
 use Rattle.std.proofs.Common.{rules, refl, ◌≡◌, ◌+◌, List, ◌++◌, slice_index_or, sym, ap, ◌∙◌}
 use Rattle.std.proofs.lemmas.List.{append-nil}
 use Rattle.mp4_present.proofs.TrafTaken.{at_place}
+use Rattle.mp4_present.specs.format.Denotes.{presentation_of}
+use Rattle.mp4_content.proofs.TimesTaken.{track_untimed}
 use Rattle.mp4_content.proofs.TracksCompared.{takes_nothing}
 use Rattle.mp4_content.proofs.FilesCompared.{takes_all, first_part, second_part, both_parts, not_by, skipped_by, track_begun}
 use Rattle.mp4_content.specs.declared.comparing.differences.Difference.{Difference}
@@ -127,3 +129,24 @@ returns-clause-handed g c =
           let handed = (rw c.as_slice.ensures.value at c.if-not-hand_over.ensures.all) refl in
           second_part before mid next _ c.in_ok-found.found.items _ compared handed (c.compare_track_samples.ensures.handed.front told told_right tree other o p t u at bt);
     }
+
+pub returns-then-not-hand_over-clause-timed : goal.returns-then-not-hand_over-clause-timed
+returns-then-not-hand_over-clause-timed g c told told_right tree other o p t u at bt before =
+    let file = g.S.Store.file c.args.left.now in
+    let untimed = track_untimed (presentation_of file tree) c.args.tracks.leaving c.args.tracks.divisors (c.args.tracks.place + 1) c.args.heads.left.now c.args.heads.right.now c.index-tracks-place.result c.index-tracks-place-2.result c.in_ok-found.found.items c.in_ok-found.ensures in
+    let heads = (rw c.as_slice.ensures.value at c.hand_over.ensures.timed) (presentation_of file tree) untimed before in
+    heads
+
+pub returns-then-skips_samples-clause-timed : goal.returns-then-skips_samples-clause-timed
+returns-then-skips_samples-clause-timed g c told told_right tree other o p t u at bt before =
+    let file = g.S.Store.file c.args.left.now in
+    let untimed = track_untimed (presentation_of file tree) c.args.tracks.leaving c.args.tracks.divisors (c.args.tracks.place + 1) c.args.heads.left.now c.args.heads.right.now c.index-tracks-place.result c.index-tracks-place-2.result c.in_ok-found.found.items c.in_ok-found.ensures in
+    let heads = (rw c.as_slice.ensures.value at c.hand_over.ensures.timed) (presentation_of file tree) untimed before in
+    heads
+
+pub returns-clause-timed : goal.returns-clause-timed
+returns-clause-timed g c told told_right tree other o p t u at bt before =
+    let file = g.S.Store.file c.args.left.now in
+    let untimed = track_untimed (presentation_of file tree) c.args.tracks.leaving c.args.tracks.divisors (c.args.tracks.place + 1) c.args.heads.left.now c.args.heads.right.now c.index-tracks-place.result c.index-tracks-place-2.result c.in_ok-found.found.items c.in_ok-found.ensures in
+    let heads = (rw c.as_slice.ensures.value at c.hand_over.ensures.timed) (presentation_of file tree) untimed before in
+    c.compare_track_samples.ensures.timed told told_right tree other o p t u at bt heads

@@ -85,12 +85,13 @@ returns-clause-told g c = λ told right tree other o u.
     let long : c.len-is_whole.result ≡ length c.in_ok-listed.listed.all.items = search rules in
     let ds = files_listed c.args.lines.aligned c.args.files.now.given (g.S.Store.file c.args.left.now) tree (g.T.Store.file c.args.right.now) other in
     let front = is.all told right tree other o u in
+    let p = presentation_of (g.S.Store.file c.args.left.now) tree in
     let taken = c.first_of-all.ensures ∙ ap (take most_counted) c.as_slice.ensures.value in
     let whole = ap (λ (n : ℕ). nat_le n most_counted) long in (
       c.in_ok-found.found.items,
       beside told right tree other o u,
       c.in_ok-words.words,
       subst (λ (differ : Without → List Difference). IsEnough c.args.files.now.given differ c.in_ok-words.words) (differ_is _ tree _ other) (named told right tree other o u),
-      counted_listed c.args.lines c.in_ok-found.found.items c.in_ok-listed.listed.all.items ds c.first_of-all.result.now _ c.enough_asked-enough.result c.in_ok-listed_text.field-0.items front taken whole (rw c.as_slice-2.ensures.value at c.in_ok-listed_text.ensures.list)
-          ∙ ap (listing_text c.args.lines c.in_ok-found.found.items ds) c.enough_asked-enough.ensures,
+      counted_listed c.args.lines p c.in_ok-found.found.items c.in_ok-listed.listed.times.items c.in_ok-listed.listed.all.items ds c.first_of-all.result.now _ c.enough_asked-enough.result c.in_ok-listed_text.field-0.items front (is.timed told right tree other o u) taken whole
+          (rw (c.as_slice-2.ensures.value, c.as_slice-3.ensures.value) at c.in_ok-listed_text.ensures.list) ∙ ap (listing_text c.args.lines p c.in_ok-found.found.items ds) c.enough_asked-enough.ensures,
     )

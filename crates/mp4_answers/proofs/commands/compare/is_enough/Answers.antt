@@ -1,3 +1,6 @@
+use Rattle.std.proofs.Common.{ap}
+use Rattle.std.specs.Prelude.{option_map}
+use Rattle.mp4_content.specs.declared.comparing.Found.{Found}
 use Rattle.std.proofs.lemmas.Result.{err_from_is_err_and}
 use Rattle.mp4_answers.specs.words.TwoFiles.{differ_without}
 use Rattle.mp4_answers.proofs.ComparedFiles.{compared_at_most}
@@ -12,16 +15,16 @@ returns-in_err-compare-clause-opened g c =
 
 pub returns-in-None-clause-enough : goal.returns-in-None-clause-enough
 returns-in-None-clause-enough g c = λ told right tree other o u.
-    same_none c.args.leaving (differ_without (g.S.Store.file c.args.left.now) tree (g.T.Store.file c.args.right.now) other) c.in_ok-compare.field-0
-    (first_differs c.args.leaving _ tree _ other c.in_ok-compare.field-0 (c.in_ok-compare.ensures.first told right tree other o u)) c.in-None.is
+    same_none c.args.leaving (differ_without (g.S.Store.file c.args.left.now) tree (g.T.Store.file c.args.right.now) other) (option_map (λ (f : Found). f.difference) c.in_ok-compare.field-0)
+    (first_differs c.args.leaving _ tree _ other (option_map (λ (f : Found). f.difference) c.in_ok-compare.field-0) (c.in_ok-compare.ensures.first told right tree other o u)) (ap (option_map (λ (f : Found). f.difference)) c.in-None.is)
 
 pub returns-in-None-clause-opened : goal.returns-in-None-clause-opened
 returns-in-None-clause-opened g c = λ told right tree other o u. (tt, compared_at_most c.args.leaving tree other _ _ (c.in_ok-compare.ensures.work told right tree other o u))
 
 pub returns-in-Some-clause-enough : goal.returns-in-Some-clause-enough
 returns-in-Some-clause-enough g c = λ told right tree other o u.
-    same_some c.args.leaving (differ_without (g.S.Store.file c.args.left.now) tree (g.T.Store.file c.args.right.now) other) c.in_ok-compare.field-0 c.in-Some.field-0
-    (first_differs c.args.leaving _ tree _ other c.in_ok-compare.field-0 (c.in_ok-compare.ensures.first told right tree other o u)) c.in-Some.is
+    same_some c.args.leaving (differ_without (g.S.Store.file c.args.left.now) tree (g.T.Store.file c.args.right.now) other) (option_map (λ (f : Found). f.difference) c.in_ok-compare.field-0) c.in-Some.field-0.difference
+    (first_differs c.args.leaving _ tree _ other (option_map (λ (f : Found). f.difference) c.in_ok-compare.field-0) (c.in_ok-compare.ensures.first told right tree other o u)) (ap (option_map (λ (f : Found). f.difference)) c.in-Some.is)
 
 pub returns-in-Some-clause-opened : goal.returns-in-Some-clause-opened
 returns-in-Some-clause-opened g c = λ told right tree other o u. (tt, compared_at_most c.args.leaving tree other _ _ (c.in_ok-compare.ensures.work told right tree other o u))

@@ -4,4 +4,4 @@ use Rattle.mp4_answers.proofs.commands.compare.say_aligned.Given as goal
 
 -- the lines so far are added
 abbrev pub invariant-loop-alignment : goal.invariant-loop-alignment
-invariant-loop-alignment l = AddsAligned l.syntax (take l.alignment-index l.aligned) l.fn.text.items l.text.items
+invariant-loop-alignment l = AddsAligned l.form (take l.alignment-index l.aligned) l.fn.text.items l.text.items

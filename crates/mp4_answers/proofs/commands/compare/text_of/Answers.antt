@@ -1,4 +1,8 @@
-use Rattle.std.proofs.Common.{sym, ◌∙◌}
+use Rattle.std.proofs.Common.{sym, ap, ◌∙◌}
+use Rattle.std.specs.Prelude.{Option, option_map}
+use Rattle.mp4_content.specs.declared.comparing.Found.{Found}
+use Rattle.mp4_content.specs.declared.comparing.differences.DecodeTime.{DecodeTime}
+use Rattle.mp4_answers.specs.format.CompareHeadline.{difference_in}
 use Rattle.std.proofs.lemmas.Result.{err_from_is_err_and}
 use Rattle.mp4_answers.specs.words.TwoFiles.{differ_without}
 use Rattle.mp4_answers.proofs.ComparedTexts.{first_differs}
@@ -26,7 +30,8 @@ pub returns-in-None-clause-said : goal.returns-in-None-clause-said
 returns-in-None-clause-said g c = λ told right tree other o u.
     let is = c.in_ok-compare-in-First in
     let differ = differ_without (g.S.Store.file c.args.left.now) tree (g.T.Store.file c.args.right.now) other in
-    let said = first_said is.field-0 (differ c.args.files.now.given) (first_differs c.args.files.now.given _ tree _ other is.field-0 (is.ensures.first told right tree other o u)) in
+    let said = first_said (option_map (λ (f : Found). f.difference) is.field-0) (differ c.args.files.now.given)
+    (first_differs c.args.files.now.given _ tree _ other (option_map (λ (f : Found). f.difference) is.field-0) (is.ensures.first told right tree other o u)) in
     rw c.in-None.is at said
 
 pub returns-in-None-clause-opened : goal.returns-in-None-clause-opened
@@ -39,7 +44,8 @@ pub returns-in_ok-first_text-in-Some-clause-said : goal.returns-in_ok-first_text
 returns-in_ok-first_text-in-Some-clause-said g c = λ told right tree other o u.
     let is = c.in_ok-compare-in-First in
     let differ = differ_without (g.S.Store.file c.args.left.now) tree (g.T.Store.file c.args.right.now) other in
-    let said = first_said is.field-0 (differ c.args.files.now.given) (first_differs c.args.files.now.given _ tree _ other is.field-0 (is.ensures.first told right tree other o u)) in
+    let said = first_said (option_map (λ (f : Found). f.difference) is.field-0) (differ c.args.files.now.given)
+    (first_differs c.args.files.now.given _ tree _ other (option_map (λ (f : Found). f.difference) is.field-0) (is.ensures.first told right tree other o u)) in
     rw c.in-Some.is at said
 
 pub returns-in_ok-first_text-in-Some-clause-opened : goal.returns-in_ok-first_text-in-Some-clause-opened
@@ -53,7 +59,13 @@ returns-in_ok-first_text-in-Some-clause-opened g c = λ told right tree other o 
 pub returns-in_ok-first_text-in-Some-clause-told : goal.returns-in_ok-first_text-in-Some-clause-told
 returns-in_ok-first_text-in-Some-clause-told g c = λ told right tree other o u.
     let first = c.in_ok-compare-in-First.ensures.first told right tree other o u in
-    rw c.in-First.is (c.in-Some.difference, sym first ∙ c.in-Some.is, c.in_ok-first_text-in-Some.ensures.line)
+    let timed = rw c.in-Some.is at c.in_ok-compare-in-First.ensures.timed told right tree other o u in
+    let found = c.in-Some.found in
+    rw c.in-First.is (
+      found.difference,
+      sym first ∙ ap (option_map (λ (f : Found). f.difference)) c.in-Some.is,
+      c.in_ok-first_text-in-Some.ensures.line ∙ ap (λ (time : Option DecodeTime). difference_in c.in-First.form time found.difference) timed,
+    )
 
 pub returns-in-All-clause-told : goal.returns-in-All-clause-told
 returns-in-All-clause-told g c = rw c.in-All.is c.all_text.ensures.told

@@ -27,7 +27,7 @@ returns-in_ok-place-in-Some-clause-movie c file tree o =
     let tracks : c.tracks.result.now ≡ c.args.movie.tracks = search rules in
     let lt = subst (λ (ts : List TrackInfo). place < length ts) tracks c.in_ok-place-in-Some.ensures.within in
     let with_id = subst (λ (ts : List TrackInfo). IfSome (slice_get ts place) (λ i. i.id ≡ id)) tracks c.in_ok-place-in-Some.ensures.track in
-    rw c.in-Some.is (alone_made file c.args.movie tree o id place lt with_id c.alone.result (c.alone.ensures.movie file tree o) c.alone.ensures.kept)
+    rw c.in-Some.is (alone_made file c.args.movie tree o id place lt with_id c.alone.result (c.alone.ensures.movie file tree o.opened) c.alone.ensures.kept)
 
 pub returns-in_ok-place-in-Some-clause-lacks : goal.returns-in_ok-place-in-Some-clause-lacks
-returns-in_ok-place-in-Some-clause-lacks c file tree o = rw c.in-Some.is (only_memory c.in-Some.id (presentation_of file tree) c.alone.result (c.alone.ensures.memory file tree o))
+returns-in_ok-place-in-Some-clause-lacks c file tree o = rw c.in-Some.is (only_memory c.in-Some.id (presentation_of file tree) c.alone.result (c.alone.ensures.memory file tree o.opened))

@@ -16,10 +16,10 @@ returns-clause-walk g c = record {
 pub returns-in_err-put_lines-clause-lines : goal.returns-in_err-put_lines-clause-lines
 returns-in_err-put_lines-clause-lines g c =
     let p = err_from_is_err_and c.from_residual.result c.from_residual.ensures.1 in
-    rw p.1 (c.in_hand-hand.result, c.in_hand-hand.ensures.hand, λ fits. c.in_err-put_lines.ensures.lines fits)
+    rw p.1 (c.fragment-fragment.result, c.fragment-fragment.ensures, (c.in_hand-hand.result, c.in_hand-hand.ensures.hand, λ fits. c.in_err-put_lines.ensures.lines fits))
 
 pub returns-clause-lines : goal.returns-clause-lines
-returns-clause-lines g c = (c.in_hand-hand.result, c.in_hand-hand.ensures.hand, λ fits. c.in_ok-put_lines.ensures.lines fits)
+returns-clause-lines g c = (c.fragment-fragment.result, c.fragment-fragment.ensures, (c.in_hand-hand.result, c.in_hand-hand.ensures.hand, λ fits. c.in_ok-put_lines.ensures.lines fits))
 
 pub returns-clause-work : goal.returns-clause-work
 returns-clause-work g c file tree t n o may =

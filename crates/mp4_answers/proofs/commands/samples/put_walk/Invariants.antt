@@ -8,6 +8,7 @@ use Rattle.mp4_present.specs.format.Denotes.{FileTree}
 use Rattle.mp4_present.specs.words.Movies.{IsWalkOf}
 use Rattle.mp4_present.specs.words.OpenedMovie.{IsOpenedAs}
 use Rattle.mp4_present.specs.words.WalkSteps.{MayTake, TakesOn}
+use Rattle.mp4_answers.specs.words.ListedWalks.{numbers_of_last}
 use Rattle.mp4_answers.proofs.WalkLines.{LinesGoOn}
 use Rattle.mp4_answers.proofs.commands.samples.put_walk.Given as goal
 
@@ -23,7 +24,7 @@ invariant-loop-text g l =
       looks : l.steps.looks ≡ l.fn.steps.looks;
       puts : g.K.Sink.put_failures l.sink ≡ g.K.Sink.put_failures l.fn.sink;
       going : IsTrue (g.S.Store.is_honest l.fn.store) → (tree : FileTree) (t : TrackTree) (samples : List SampleAt) → IsOpenedAs (g.S.Store.file l.fn.store) l.movie tree → Comes (g.S.Store.file l.fn.store) tree t l.movie l.fn.walk samples → length samples < 2 ^ 32
-          → LinesGoOn l.fn.text.form (g.S.Store.file l.fn.store) tree t (g.K.Sink.takes l.fn.sink l.sink) (waiting l.fn.text.carrier) (waiting l.text.carrier) l.number l.walk samples;
+          → LinesGoOn l.fn.text.form (g.S.Store.file l.fn.store) tree t (g.K.Sink.takes l.fn.sink l.sink) (waiting l.fn.text.carrier) (waiting l.text.carrier) l.number l.walk (numbers_of_last tree t (length samples)) samples;
       grows : l.fn.steps.passed ≤ l.steps.passed;
       takes : IsTrue (g.S.Store.is_honest l.fn.store) → (tree : FileTree) (t : TrackTree) (n : ℕ) → IsOpenedAs (g.S.Store.file l.fn.store) l.movie tree → MayTake (g.S.Store.file l.fn.store) tree t l.fn.walk n
           → TakesOn (g.S.Store.file l.fn.store) tree t n l.walk l.fn.steps.passed l.steps.passed;

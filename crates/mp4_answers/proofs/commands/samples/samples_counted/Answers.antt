@@ -8,7 +8,9 @@ use Rattle.mp4_answers.specs.format.Answers.{IsFaultOf}
 use Rattle.mp4_answers.specs.format.FileTexts.{ListsSamples}
 use Rattle.mp4_answers.specs.format.Selected.{LacksTrack}
 use Rattle.mp4_answers.specs.format.Run.{run_of, Honest}
-use Rattle.mp4_answers.specs.format.Texts.{listing_head, sample_at_lines}
+use Rattle.mp4_answers.specs.format.Texts.{lines_in_fragments, listing_head}
+use Rattle.mp4_present.specs.format.SamplePlaces.{sample_fragments}
+use Rattle.mp4_answers.proofs.InFragments.{all_numbers}
 use Rattle.mp4_answers.proofs.RunParts.{copy_answers, open_fails, put_fails}
 use Rattle.mp4_answers.proofs.TrackTexts.{track_found, lacks, lists}
 use Rattle.mp4_answers.proofs.WalkLines.{headed_whole, headed_fails}
@@ -33,6 +35,11 @@ returns-in_err-track-clause-answer g c =
     let n = rw c.tracks.ensures at c.in_err-track.ensures.none in
     rw (p.1, p.2, n.0) (g.met.K.Sink.takes_nothing c.args.sink.now, λ told. (let o = e.movie told in lacks (g.S.Store.file c.args.store.now) c.in_ok-movie.movie o.0 c.args.id o.1 n.1))
 
+pub returns-in_err-walk-clause-answer : goal.returns-in_err-walk-clause-answer
+returns-in_err-walk-clause-answer g c =
+    let p = err_from_is_err_and c.from_residual-in_err-walk.result c.from_residual-in_err-walk.ensures.1 in
+    rw (p.1, p.2) (g.met.K.Sink.takes_nothing c.args.sink.now)
+
 pub returns-in_err-carrier-clause-answer : goal.returns-in_err-carrier-clause-answer
 returns-in_err-carrier-clause-answer g c =
     let p = err_from_is_err_and c.from_residual-in_err-carrier.result c.from_residual-in_err-carrier.ensures.1 in
@@ -50,8 +57,8 @@ returns-in_err-carry-clause-answer g c =
     (λ told.
     let o = e.movie told in
     let f = track_found file c.in_ok-movie.movie o.0 c.in_ok-track.track c.args.id o.1 (rw c.tracks.ensures at c.in_ok-track.ensures.within) (rw c.tracks.ensures at c.in_ok-track.ensures.track) in
-    let lines = sample_at_lines form 1 (track_samples o.0 f.t) in
-    (listing_head form ++ lines, lists form file o.0 c.in_ok-track.track c.args.id f, TakesPrefix-longer (g.K.Sink.takes c.args.sink.now c.carry.new.sink) (listing_head form) lines front)))
+    let lines = lines_in_fragments form 1 (sample_fragments o.0 f.t) (track_samples o.0 f.t) in
+    (listing_head form ++ lines, lists form file c.in_ok-movie.movie o.0 c.in_ok-track.track c.args.id o.1 f, TakesPrefix-longer (g.K.Sink.takes c.args.sink.now c.carry.new.sink) (listing_head form) lines front)))
 
 pub returns-clause-answer : goal.returns-clause-answer
 returns-clause-answer g c =
@@ -68,17 +75,17 @@ returns-clause-answer g c =
     let o = e.movie told in
     let f = track_found file c.in_ok-movie.movie o.0 c.in_ok-track.track c.args.id o.1 (rw c.tracks.ensures at c.in_ok-track.ensures.within) (rw c.tracks.ensures at c.in_ok-track.ensures.track) in
     let samples = track_samples o.0 f.t in
-    let lines = sample_at_lines form 1 samples in
-    on_ok _ _ c.put_walk.result (λ all. (listing_head form ++ lines, lists form file o.0 c.in_ok-track.track c.args.id f, headed_whole g.met.K.Sink.takes_on _ _ _ _ (listing_head form) lines went all))
-    (walked told o.0 f.t samples o.1.opened (c.in_ok-walk.ensures.coming file o.0 f.t o.1.opened f.is_there) f.few).all))
+    let lines = lines_in_fragments form 1 (sample_fragments o.0 f.t) samples in
+    on_ok _ _ c.put_walk.result (λ all. (listing_head form ++ lines, lists form file c.in_ok-movie.movie o.0 c.in_ok-track.track c.args.id o.1 f, headed_whole g.met.K.Sink.takes_on _ _ _ _ (listing_head form) lines went all))
+    (rw (all_numbers file c.in_ok-movie.movie o.0 f.t o.1.opened) at (walked told o.0 f.t samples o.1.opened (c.in_ok-walk.ensures.coming file o.0 f.t o.1.opened f.is_there) f.few)).all))
     (if_err _ _ c.put_walk.result (λ e x. copy_not_carried r.took _ _ _ _ e x) cause)
     (λ told.
     let o = e.movie told in
     let f = track_found file c.in_ok-movie.movie o.0 c.in_ok-track.track c.args.id o.1 (rw c.tracks.ensures at c.in_ok-track.ensures.within) (rw c.tracks.ensures at c.in_ok-track.ensures.track) in
     let samples = track_samples o.0 f.t in
-    let lines = sample_at_lines form 1 samples in
-    on_err _ _ c.put_walk.result (λ all. (listing_head form ++ lines, lists form file o.0 c.in_ok-track.track c.args.id f, headed_fails g.met.K.Sink.takes_on _ _ _ _ (listing_head form) lines went all))
-    (walked told o.0 f.t samples o.1.opened (c.in_ok-walk.ensures.coming file o.0 f.t o.1.opened f.is_there) f.few).front)
+    let lines = lines_in_fragments form 1 (sample_fragments o.0 f.t) samples in
+    on_err _ _ c.put_walk.result (λ all. (listing_head form ++ lines, lists form file c.in_ok-movie.movie o.0 c.in_ok-track.track c.args.id o.1 f, headed_fails g.met.K.Sink.takes_on _ _ _ _ (listing_head form) lines went all))
+    (rw (all_numbers file c.in_ok-movie.movie o.0 f.t o.1.opened) at (walked told o.0 f.t samples o.1.opened (c.in_ok-walk.ensures.coming file o.0 f.t o.1.opened f.is_there) f.few)).front)
     (λ told.
     let o = e.movie told in
     let f = track_found file c.in_ok-movie.movie o.0 c.in_ok-track.track c.args.id o.1 (rw c.tracks.ensures at c.in_ok-track.ensures.within) (rw c.tracks.ensures at c.in_ok-track.ensures.track) in

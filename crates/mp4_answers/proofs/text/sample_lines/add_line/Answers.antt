@@ -7,4 +7,4 @@ pub returns : goal.returns
 returns c =
     let a = c.args in
     let w = c.sample_line-start in
-    rw (c.push_front.ensures, c.split_at.ensures.back, line_front w.new.text a.text.now (sample_at_line a.form a.number a.sample.now) w.result 240 w.ensures.written (search rules) (search rules) w.ensures.before)
+    rw (c.push_front.ensures, c.split_at.ensures.back, line_front w.new.text a.text.now (sample_at_line a.form a.number a.fragment a.sample.now) w.result 296 w.ensures.written (search rules) (search rules) w.ensures.before)

@@ -10,7 +10,7 @@ invariant-loop-sample g l =
     let rest = g.C.Samples.rest in
     record {
       number : l.fn.number + length (rest l.fn.samples) < 2 ^ 64 → l.number + length (rest l.samples) ≡ l.fn.number + length (rest l.fn.samples);
-      lines : l.fn.number + length (rest l.fn.samples) < 2 ^ 64 → Going (g.K.Sink.takes l.fn.sink l.sink) (waiting l.fn.carrier) (waiting l.carrier ++ l.block) (sample_at_lines l.form l.number (rest l.samples)) (sample_at_lines l.form l.fn.number (rest l.fn.samples));
+      lines : l.fn.number + length (rest l.fn.samples) < 2 ^ 64 → Going (g.K.Sink.takes l.fn.sink l.sink) (waiting l.fn.carrier) (waiting l.carrier ++ l.block) (sample_at_lines l.form l.number l.fragment (rest l.samples)) (sample_at_lines l.form l.fn.number l.fragment (rest l.fn.samples));
       failures : g.K.Sink.put_failures l.sink ≡ g.K.Sink.put_failures l.fn.sink;
       later : g.C.Samples.follows l.fn.samples l.samples;
     }

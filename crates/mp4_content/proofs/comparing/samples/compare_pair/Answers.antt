@@ -1,5 +1,8 @@
-use Rattle.std.proofs.Common.{◌≡◌, subst, sym}
+use Rattle.std.proofs.Common.{◌≡◌, List, ap, subst, sym}
+use Rattle.std.specs.Prelude.{slice_get}
 use Rattle.std.proofs.lemmas.Result.{err_from_is_err_and}
+use Rattle.mp4_tables.specs.declared.sample.SampleAt.{SampleAt}
+use Rattle.mp4_content.specs.words.Aligning.{due}
 use Rattle.mp4_content.specs.words.Differing.{differences_at}
 use Rattle.mp4_present.specs.words.NextSample.{TakesFirst}
 use Rattle.mp4_present.specs.declared.walking.Walk.{Walk}
@@ -67,6 +70,16 @@ returns-clause-found g c told told_right tree other o p t u xs ys hx hy =
     let first = subst (λ (w : Walk). TakesFirst file tree t movies.left w xs c.in_ok-x.x) (sym c.in_ok-compare_bytes.ensures.walk) (c.in_ok-x.ensures.next told tree t xs o hx) in
     let second = subst (λ (w : Walk). TakesFirst right_file other u movies.right w ys c.in_ok-y.y) (sym c.in_ok-compare_bytes.ensures.right_walk) (c.in_ok-y.ensures.next told_right other u ys p hy) in
     (c.in_ok-x.x, c.in_ok-y.y, first, second, found_then _ _ _ _ samples bytes)
+
+pub returns-in_err-compare_samples-clause-time : goal.returns-in_err-compare_samples-clause-time
+returns-in_err-compare_samples-clause-time g c told told_right tree other o p t u xs ys hx hy =
+    let e = err_from_is_err_and c.from_residual-in_err-compare_samples.result c.from_residual-in_err-compare_samples.ensures.1 in
+    rw e.1 tt
+
+pub returns-clause-time : goal.returns-clause-time
+returns-clause-time g c told told_right tree other o p t u xs ys hx hy =
+    let first = c.in_ok-x.ensures.next told tree t xs o hx in
+    sym (ap (λ (ss : List SampleAt). due (slice_get ss 0)) first.1)
 
 pub returns-clause-work : goal.returns-clause-work
 returns-clause-work g c told told_right tree other o p t u n m hx hy =
