@@ -181,7 +181,7 @@ def of_two_files() -> Iterator:
     same = {'a.mp4': PLAIN, 'b.mp4': bytes_of('files', 'first-normal-form.mp4')}
     both, cut_said = {'a.mp4': PLAIN, 'b.mp4': OTHER}, b'cut.mp4: ' + CUT_SAID
     found = [('bytes', DIFFERENCE.decode()[:-1])]
-    parsed = f'{objects.difference(*found[0])}\n{objects.last(found, None)}\n'.encode()
+    parsed = f"{objects.difference(*found[0], '1024/12800')}\n{objects.last(found, None)}\n".encode()
     data = long.with_far_fragments()
     yield case('the same', compare, same)
     yield case('others', compare, both, 5, put=DIFFERENCE)
@@ -191,6 +191,7 @@ def of_two_files() -> Iterator:
                put=b'track 1: start 24000 | 24048\n')
     yield case('all', f'{compare} --all', both, 5, put=DIFFERENCE + last)
     yield case('all as JSON', f'{compare} --all --json --explain', both, 5, put=parsed)
+    yield case('all, explained', f'{compare} --all --explain', both, 5, put=DIFFERENCE[:-1] + b' (0.080 s)\n' + last)
     lies = b'track 1: sample 3 of A (0.080 s) | sample 3 of B (0.080 s)\n'
     yield case('aligned', f'{compare} --align', both, 5, put=lies + DIFFERENCE + last)
     yield case('the same as JSON', f'{compare} --all --json', same,
