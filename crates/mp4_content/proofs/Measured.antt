@@ -1,25 +1,17 @@
 -- What is left of all samples of a track together, as it is measured in a walk.
-use Rattle.std.proofs.Common.{◌≡◌, ℕ, suc, ◌+◌, ◌-◌, ◌^◌, ◌<◌, ◌≤◌, min, true, List, [], ◌∷◌, refl, sym, ap, subst, ◌∙◌, arith, ◌++◌, rules}
-use Rattle.std.specs.Prelude.{◌&&◌, Some, None, drop, slice_get, nat_lt, ℤ, pos, negsuc, FitsSigned}
+use Rattle.std.proofs.Common.{◌≡◌, ℕ, suc, ◌+◌, ◌-◌, ◌^◌, ◌<◌, ◌≤◌, min, true, List, [], ◌∷◌, refl, sym, ap, subst, ◌∙◌, arith, rules}
+use Rattle.std.specs.Prelude.{◌&&◌, nat_lt, ℤ, pos, negsuc, FitsSigned}
 use Rattle.std.specs.Int.{w32}
 use Rattle.std.specs.List.{AllByRecursion}
-use Rattle.mp4_frag.specs.words.OwnTrafs.{PlacedTraf}
-use Rattle.mp4_head.specs.format.Tree.{TrackTree}
 use Rattle.mp4_tables.specs.format.Groups.{GroupKey}
 use Rattle.mp4_tables.specs.declared.sample.SampleAt.{SampleAt}
 use Rattle.mp4_present.specs.format.Presentation.{Sample, total_duration}
 use Rattle.mp4_content.specs.words.ComingLess.{cto_left, lasts_left}
-use Rattle.mp4_present.specs.format.Denotes.{FileTree}
-use Rattle.mp4_present.specs.words.HandCarried.{OfHand}
-use Rattle.mp4_present.specs.words.InHand.{left_in_hand}
-use Rattle.mp4_present.specs.words.Movies.{MovieSeen}
-use Rattle.mp4_present.specs.words.SamplesComing.{Comes, StandsBefore, samples_behind}
-use Rattle.mp4_present.specs.declared.walking.in_hand.InHand.{InHand}
-use Rattle.mp4_present.specs.declared.walking.Walk.{Walk}
-use Rattle.mp4_present.proofs.WalkCopied.{hand_one}
 use Rattle.mp4_content.specs.format.TimedSamples.{timed_from}
-use Rattle.mp4_content.specs.words.Measuring.{is_near, no_total, total_from, total_with}
+use Rattle.mp4_content.specs.words.Measuring.{is_near, measured_with, total_from, total_with}
 use Rattle.mp4_content.specs.words.TakenSamples.{AreTaken}
+use Rattle.mp4_present.specs.words.Folding.{Through}
+use Rattle.mp4_content.specs.declared.measures.Measuring.{Measuring}
 use Rattle.mp4_content.specs.declared.measures.Total.{Total}
 use Rattle.mp4_content.specs.declared.reduced.Reduction.{Reduction}
 use Rattle.mp4_content.proofs.ReducedTaken.{AreNumbered, remaining_from}
@@ -43,41 +35,10 @@ fits_near (negsuc n) h = not_below n (omega (arith, h))
 
 -- ---- samples
 
--- those that were added before, and then others
-pub total_append : (r : Reduction) (total : Total) (xs ys : List SampleAt) → total_from r total (xs ++ ys) ≡ total_from r (total_from r total xs) ys
-total_append r total [] ys = refl
-total_append r total (x ∷ xs) ys = total_append r (total_with r total x) xs ys
-
--- one more, and none
-pub one_added : (r : Reduction) (total next : Total) (samples rest : List SampleAt) (s : SampleAt) → Some s ≡ slice_get samples 0 → rest ≡ drop 1 samples → next ≡ total_with r total s → total_from r total samples ≡ total_from r next rest
-one_added r total next [] rest s is left e = absurd cc
-one_added r total next (x ∷ samples) rest s is left e =
-    let same : x ≡ s = cc in
-    (λ i. total_from r (total_with r total (same i)) samples) ∙ (λ i. total_from r (sym e i) (sym left i))
-
-pub none_added : (r : Reduction) (total : Total) (samples : List SampleAt) → None ≡ slice_get samples 0 → total_from r total samples ≡ total
-none_added r total [] is = refl
-none_added r total (x ∷ samples) is = absurd cc
-
--- what a walk has added so far, of all samples that it had to come
-pub record HasAdded (r : Reduction) (file : List ℕ) (tree : FileTree) (t : TrackTree) (total : Total) (w : Walk) (all : List SampleAt) : Type 0 where
-  pub earlier : List PlacedTraf
-  pub later : List PlacedTraf
-  pub stands : StandsBefore file tree t earlier later w
-  pub added : total_from r no_total all ≡ total_from r total (samples_behind tree t earlier later)
-
--- all samples in hand are added
-pub hand_added : (r : Reduction) (file : List ℕ) (tree : FileTree) (t : TrackTree) (m : MovieSeen) (total next : Total) (w now : Walk) (all to_come : List SampleAt) → total_from r no_total all ≡ total_from r total to_come → (k : Comes file tree t m w to_come)
-    → (x : OfHand m w (λ hand. next ≡ total_from r total (left_in_hand hand))) → ((earlier later : List PlacedTraf) → StandsBefore file tree t earlier later w → StandsBefore file tree t earlier later now) → HasAdded r file tree t next now all
-hand_added r file tree t m total next w now all to_come h k x on =
-    let rest = samples_behind tree t k.0 k.1 in
-    let and_is_true : to_come ≡ left_in_hand x.0 ++ rest = k.3.2 ∙ ap (λ (y : InHand). left_in_hand y ++ rest) (hand_one m w k.2 x.0 k.3.1 x.1) in
-    record {
-      earlier = k.0;
-      later = k.1;
-      stands = on k.0 k.1 k.3.0;
-      added = h ∙ ap (total_from r total) and_is_true ∙ total_append r total (left_in_hand x.0) rest ∙ ap (λ (y : Total). total_from r y rest) (sym x.2);
-    }
+-- added in a walk
+pub all_measured : (m n : Measuring) (samples : List SampleAt) → Through (λ (m : Measuring) s n. n ≡ measured_with m s) m samples n → n.total ≡ total_from m.reduction m.total samples
+all_measured m n [] h = ap (λ (x : Measuring). x.total) h
+all_measured m n (s ∷ samples) h = all_measured h.0 n samples h.1.1 ∙ ap (λ (x : Measuring). total_from x.reduction x.total samples) h.1.0
 
 module _ (r : Reduction) (file : List ℕ) (keys : List GroupKey) where
   pub total_lasts : (total : Total) (number time place : ℕ) (taken : List SampleAt) (samples : List Sample) → total.duration ≤ 2 ^ 64 - 1 → AreNumbered place taken → AreTaken file keys taken (timed_from number time samples)

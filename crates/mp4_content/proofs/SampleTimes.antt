@@ -1,9 +1,8 @@
 -- The greatest common divisor of the times of a track's samples, as it is found in a walk over them.
 use Rattle.std.proofs.Common.{◌≡◌, ℕ, ◌+◌, Bool, true, false, if◌then◌else◌, List, [], ◌∷◌, ◌++◌, length, refl, sym, ap, ◌∙◌}
-use Rattle.std.specs.Prelude.{◌&&◌, ◌||◌, Some, None, drop, map, slice_get, ℤ, pos}
+use Rattle.std.specs.Prelude.{◌&&◌, ◌||◌, map, slice_get, ℤ, pos}
 use Rattle.std.proofs.lemmas.List.{length-map}
 use Rattle.mp4_boxes.proofs.Plain.{plus_one}
-use Rattle.mp4_frag.specs.words.OwnTrafs.{PlacedTraf}
 use Rattle.mp4_head.specs.format.Tree.{TrackTree}
 use Rattle.mp4_head.specs.format.Head.{Edit}
 use Rattle.mp4_tables.specs.format.Groups.{GroupKey}
@@ -14,64 +13,31 @@ use Rattle.mp4_tables.proofs.SampleLists.{timed_length}
 use Rattle.mp4_frag.specs.format.FragmentSamples.{start_of}
 use Rattle.mp4_present.specs.format.Denotes.{FileTree, file_parts, parts_of_track, placed_of, plain_of, sample_of, track_of}
 use Rattle.mp4_present.specs.format.Presentation.{Sample, Track}
-use Rattle.mp4_present.specs.words.HandCarried.{OfHand}
-use Rattle.mp4_present.specs.words.InHand.{left_in_hand}
-use Rattle.mp4_present.specs.words.Movies.{MovieSeen}
-use Rattle.mp4_present.specs.words.SamplesComing.{Comes, StandsBefore, samples_behind, track_keys, track_samples}
-use Rattle.mp4_present.specs.declared.walking.in_hand.InHand.{InHand}
-use Rattle.mp4_present.specs.declared.walking.Walk.{Walk}
-use Rattle.mp4_present.proofs.WalkCopied.{hand_one}
+use Rattle.mp4_present.specs.words.SamplesComing.{track_keys, track_samples}
 use Rattle.mp4_content.specs.format.Reduced.{duration_left, is_at_end, offset_left, reduce_from, reduce_samples, reduce_track, start_left, timescale_left}
 use Rattle.mp4_content.specs.format.Remaining.{track_divisor}
 use Rattle.mp4_content.specs.format.Timescales.{counted_duration, counted_timescale, divisor_of, sample_times, track_times}
 use Rattle.mp4_content.specs.words.ComingLess.{asks_first, plain_reduction, reduction_by, reduction_of}
-use Rattle.mp4_content.specs.words.Scales.{divisor_from, edits_left, head_times_left, media_times_of, sample_times_left}
+use Rattle.mp4_present.specs.words.Folding.{Through}
+use Rattle.mp4_content.specs.words.Scales.{divided_with, divisor_from, edits_left, head_times_left, media_times_of, sample_times_left}
 use Rattle.mp4_content.specs.declared.reduced.Reduction.{Reduction}
+use Rattle.mp4_content.specs.declared.scales.Dividing.{Dividing}
 use Rattle.mp4_content.specs.declared.without.Without.{Without}
-use Rattle.mp4_content.proofs.DivisorsFound.{from_append, from_none}
+use Rattle.mp4_content.proofs.DivisorsFound.{from_append, from_none, one_stays}
 use Rattle.mp4_content.proofs.ReducedTaken.{any_samples, any_times}
 use Rattle.mp4_content.proofs.SamplesReduced.{reduced_length}
 
 -- ---- in a walk
 
-times_append : (r : Reduction) (xs ys : List SampleAt) → sample_times_left r (xs ++ ys) ≡ sample_times_left r xs ++ sample_times_left r ys
-times_append r [] ys = refl
-times_append r (s ∷ xs) ys = ap (λ (times : List ℤ). pos (counted_duration r.leaving r.samples s.number s.duration) ∷ offset_left r.leaving r.offset s.cto ∷ times) (times_append r xs ys)
+pub all_divided : (d n : Dividing) (samples : List SampleAt) → Through (λ (d : Dividing) s n. n ≡ divided_with d s) d samples n → n.divisor ≡ divisor_from d.divisor (sample_times_left d.reduction samples)
+all_divided d n [] h = ap (λ (x : Dividing). x.divisor) h
+all_divided d n (s ∷ samples) h = all_divided h.0 n samples h.1.1 ∙ ap (λ (x : Dividing). divisor_from x.divisor (sample_times_left x.reduction samples)) h.1.0
 
--- those that were found before, and then others
-pub found_append : (r : Reduction) (g : ℕ) (xs ys : List SampleAt) → divisor_from g (sample_times_left r (xs ++ ys)) ≡ divisor_from (divisor_from g (sample_times_left r xs)) (sample_times_left r ys)
-found_append r g xs ys = ap (divisor_from g) (times_append r xs ys) ∙ from_append g (sample_times_left r xs) (sample_times_left r ys)
-
--- one more, and none
-pub one_found : (r : Reduction) (g next : ℕ) (samples rest : List SampleAt) (s : SampleAt) → Some s ≡ slice_get samples 0 → rest ≡ drop 1 samples → next ≡ divisor_from g (sample_times_left r (s ∷ [])) → divisor_from g (sample_times_left r samples) ≡ divisor_from next (sample_times_left r rest)
-one_found r g next [] rest s is left e = absurd cc
-one_found r g next (x ∷ samples) rest s is left e =
-    let same : x ≡ s = cc in
-    (λ i. divisor_from g (sample_times_left r (same i ∷ samples))) ∙ found_append r g (s ∷ []) samples ∙ (λ i. divisor_from (sym e i) (sample_times_left r (sym left i)))
-
-pub none_found : (r : Reduction) (g : ℕ) (samples : List SampleAt) → None ≡ slice_get samples 0 → divisor_from g (sample_times_left r samples) ≡ g
-none_found r g [] is = refl
-none_found r g (x ∷ samples) is = absurd cc
-
--- what a walk has found so far, of all samples that it had to come
-pub record HasFound (r : Reduction) (file : List ℕ) (tree : FileTree) (t : TrackTree) (begun g : ℕ) (w : Walk) (all : List SampleAt) : Type 0 where
-  pub earlier : List PlacedTraf
-  pub later : List PlacedTraf
-  pub stands : StandsBefore file tree t earlier later w
-  pub found : divisor_from begun (sample_times_left r all) ≡ divisor_from g (sample_times_left r (samples_behind tree t earlier later))
-
--- all samples in hand are found
-pub hand_found : (r : Reduction) (file : List ℕ) (tree : FileTree) (t : TrackTree) (m : MovieSeen) (begun g next : ℕ) (w now : Walk) (all to_come : List SampleAt) → divisor_from begun (sample_times_left r all) ≡ divisor_from g (sample_times_left r to_come) → (k : Comes file tree t m w to_come)
-    → (x : OfHand m w (λ hand. next ≡ divisor_from g (sample_times_left r (left_in_hand hand)))) → ((earlier later : List PlacedTraf) → StandsBefore file tree t earlier later w → StandsBefore file tree t earlier later now) → HasFound r file tree t begun next now all
-hand_found r file tree t m begun g next w now all to_come h k x on =
-    let rest = samples_behind tree t k.0 k.1 in
-    let both : to_come ≡ left_in_hand x.0 ++ rest = k.3.2 ∙ ap (λ (y : InHand). left_in_hand y ++ rest) (hand_one m w k.2 x.0 k.3.1 x.1) in
-    record {
-      earlier = k.0;
-      later = k.1;
-      stands = on k.0 k.1 k.3.0;
-      found = h ∙ ap (λ (samples : List SampleAt). divisor_from g (sample_times_left r samples)) both ∙ found_append r g (left_in_hand x.0) rest ∙ ap (λ n. divisor_from n (sample_times_left r rest)) (sym x.2);
-    }
+pub one_divides : (d : Dividing) (s : SampleAt) → d.divisor ≡ 1 → divided_with d s ≡ d
+one_divides d s one =
+    let times = sample_times_left d.reduction (s ∷ []) in
+    let same : divisor_from d.divisor times ≡ d.divisor = ap (λ (n : ℕ). divisor_from n times) one ∙ one_stays times ∙ sym one in
+    λ i. record d { divisor = same i }
 
 -- ---- times that count
 

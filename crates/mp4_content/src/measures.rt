@@ -1,15 +1,12 @@
 //! What samples of a movie's tracks are left by, and what is left of them together.
 ghost use Rattle.std.specs.Prelude.{◌≡◌, ℕ, ◌+◌, ◌<◌, ◌≤◌, List, length, if◌then◌else◌, false, true, IfOk, OnOk};
-ghost use Rattle.mp4_head.specs.format.Tree.{TrackTree};
 ghost use Rattle.mp4_present.specs.format.Denotes.{FileTree};
-ghost use Rattle.mp4_present.specs.words.HandCarried.{OfHand, StaysBefore};
-ghost use Rattle.mp4_present.specs.words.InHand.{left_in_hand};
 ghost use Rattle.mp4_present.specs.words.Movies.{IsWalkOf, RefusesLoad};
 ghost use Rattle.mp4_present.specs.words.OpenedMovie.{IsOpenedAs};
 ghost use Rattle.mp4_present.specs.words.SamplesComing.{Comes, track_samples};
 ghost use Rattle.mp4_present.specs.words.StoresRead.{IsUnchanged, OnlyReads, Refused};
 ghost use Rattle.mp4_present.specs.words.TrackWalks.{IsWalkStill, TakesSteps, WhereComes, WhereMayTake, WhereTrack};
-ghost use Rattle.mp4_present.specs.words.WalkSteps.{MayTake, TakesOn, walk_steps, walks_steps};
+ghost use Rattle.mp4_present.specs.words.WalkSteps.{walk_steps, walks_steps};
 ghost use Rattle.mp4_content.specs.words.ComingLess.{asks_first, reduction_of};
 ghost use Rattle.mp4_content.specs.words.Opened.{OverOpened};
 ghost use Rattle.mp4_content.specs.words.Measuring.{AreMeasured, is_near, measures, no_total, total_from, total_with};
@@ -21,9 +18,9 @@ use crate::reduced::{Reduction, asks_first};
 use crate::scales::Scales;
 use crate::without::{Without, Word};
 use mp4_boxes::{Refusal, Steps};
-use mp4_present::{Movie, Walk};
+use mp4_present::{Fold, Movie, Walk, fold_samples};
 use mp4_store::Store;
-use mp4_tables::{SampleAt, Samples};
+use mp4_tables::SampleAt;
 use std::alloc::{AllocError, Global};
 use std::sync::ledger::Ledger;
 
@@ -104,32 +101,22 @@ fn total_with(reduction: Reduction, total: Total, sample: &SampleAt) -> Total
     }
 }
 
-// Adds all samples in hand, which are taken.
-fn add_hand<L: Ledger, M: Ledger>(
-    walk: &mut Walk,
+// What is left of samples together, added one after the other.
+#[derive(Clone, Copy)]
+struct Measuring {
     reduction: Reduction,
-    movie: &Movie,
-    total: &mut Total,
-    steps: &mut Steps<L, M>,
-)
-    requires { IsWalkOf movie.now walk.old }
-    ensures walk { StaysBefore movie.now walk.old walk.new }
-    ensures added { OfHand movie.now walk.old (λ hand.
-        total.new ≡ total_from reduction total.old (left_in_hand hand)) }
-    ensures grows { steps.old.passed ≤ steps.new.passed }
-    ensures work { (file : List ℕ) (tree : FileTree) (t : TrackTree) (n : ℕ)
-        → IsOpenedAs file movie.now tree → MayTake file tree t walk.old n
-        → TakesOn file tree t n walk.new steps.old.passed steps.new.passed }
-    ensures looks { steps.new.looks ≡ steps.old.looks }
-{
-    let place = {
-        let mut hand = walk.in_hand(movie);
-        while let Some(sample) = hand.next() {
-            *total = total_with(reduction, *total, &sample);
-        }
-        hand.place()
-    };
-    walk.keep(place, steps);
+    total: Total,
+}
+
+impl Fold for Measuring {
+    ghost use Rattle.std.specs.Prelude.{◌≡◌};
+    ghost use Rattle.mp4_content.specs.words.Measuring.{measured_with};
+
+    ghost takes = { λ m s n. n ≡ measured_with m s };
+
+    fn add(&mut self, sample: &SampleAt) {
+        self.total = total_with(self.reduction, self.total, sample);
+    }
 }
 
 // What is left of all samples that a walk has still to come.
@@ -152,15 +139,13 @@ fn total_of<S: Store, L: Ledger, M: Ledger>(
     ensures refusal { Refused S.Store store.old store.new result RefusesLoad }
     ensures looks { steps.new.looks ≡ steps.old.looks }
 {
-    let mut total = Total {
+    let total = Total {
         duration: 0,
         is_near: true,
     };
-    add_hand(walk, reduction, movie, &mut total, steps);
-    while walk.load(movie, store, steps)? {
-        add_hand(walk, reduction, movie, &mut total, steps);
-    }
-    Ok(total)
+    let mut measuring = Measuring { reduction, total };
+    fold_samples(walk, &mut measuring, movie, store, steps)?;
+    Ok(measuring.total)
 }
 
 // Measures the samples of the track at this place, one after the other.

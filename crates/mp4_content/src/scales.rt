@@ -1,15 +1,12 @@
 //! By what times of what remains of a movie are divided.
-ghost use Rattle.std.specs.Prelude.{◌≡◌, ℕ, ◌<◌, ◌≤◌, ◌+◌, List, [], ◌∷◌, length, map, replicate, slice_get, unwrap_or, pos, false, true, IfOk, IfSome, OnOk};
-ghost use Rattle.mp4_head.specs.format.Tree.{TrackTree, track_head_of};
+ghost use Rattle.std.specs.Prelude.{◌≡◌, ◌<◌, ◌≤◌, ◌+◌, [], ◌∷◌, length, map, replicate, slice_get, unwrap_or, pos, false, true, IfOk, IfSome, OnOk};
+ghost use Rattle.mp4_head.specs.format.Tree.{track_head_of};
 ghost use Rattle.mp4_head.specs.words.Seen.{edit_seen, track_seen, tracks_seen};
-ghost use Rattle.mp4_present.specs.format.Denotes.{FileTree, file_parts, track_of};
-ghost use Rattle.mp4_present.specs.words.HandCarried.{OfHand, StaysBefore};
-ghost use Rattle.mp4_present.specs.words.InHand.{left_in_hand};
+ghost use Rattle.mp4_present.specs.format.Denotes.{file_parts, track_of};
 ghost use Rattle.mp4_present.specs.words.Movies.{IsWalkOf, RefusesLoad};
-ghost use Rattle.mp4_present.specs.words.OpenedMovie.{IsOpenedAs};
 ghost use Rattle.mp4_present.specs.words.StoresRead.{IsUnchanged, OnlyReads, Refused};
 ghost use Rattle.mp4_present.specs.words.TrackWalks.{WhereComes, WhereMayTake, WhereTrack};
-ghost use Rattle.mp4_present.specs.words.WalkSteps.{MayTake, TakesOn, walk_steps, walks_steps};
+ghost use Rattle.mp4_present.specs.words.WalkSteps.{walk_steps, walks_steps};
 ghost use Rattle.mp4_content.specs.format.Remaining.{track_divisor};
 ghost use Rattle.mp4_content.specs.format.Timescales.{common_divisor, counted_media_time, counted_timescale};
 ghost use Rattle.mp4_content.specs.words.Opened.{OverOpened, RefusesPlan};
@@ -20,9 +17,9 @@ use crate::reduced::Reduction;
 use crate::without::{Without, Word};
 use mp4_boxes::{Refusal, Steps};
 use mp4_head::{Edit, MovieHead, TrackHead};
-use mp4_present::{Movie, TrackInfo, Walk};
+use mp4_present::{Fold, Movie, TrackInfo, Walk, fold_samples};
 use mp4_store::Store;
-use mp4_tables::{SampleAt, Samples};
+use mp4_tables::SampleAt;
 use std::alloc::{AllocError, Global};
 use std::sync::ledger::Ledger;
 
@@ -126,36 +123,26 @@ fn with_sample(reduction: Reduction, found: u64, sample: &SampleAt) -> u64
     common_divisor(offset, common_divisor(duration, found))
 }
 
-// The same with those of all samples in hand, which are taken until no number but 1 divides all.
-fn with_hand<L: Ledger, M: Ledger>(
-    walk: &mut Walk,
+// What divides the times of samples that are added one after the other.
+#[derive(Clone, Copy)]
+struct Dividing {
     reduction: Reduction,
-    movie: &Movie,
-    divisor: &mut u64,
-    steps: &mut Steps<L, M>,
-)
-    requires { IsWalkOf movie.now walk.old }
-    ensures walk { StaysBefore movie.now walk.old walk.new }
-    ensures divisor { OfHand movie.now walk.old (λ hand.
-        divisor.new
-        ≡ divisor_from divisor.old (sample_times_left reduction (left_in_hand hand))) }
-    ensures grows { steps.old.passed ≤ steps.new.passed }
-    ensures work { (file : List ℕ) (tree : FileTree) (t : TrackTree) (n : ℕ)
-        → IsOpenedAs file movie.now tree → MayTake file tree t walk.old n
-        → TakesOn file tree t n walk.new steps.old.passed steps.new.passed }
-    ensures looks { steps.new.looks ≡ steps.old.looks }
-{
-    let place = {
-        let mut hand = walk.in_hand(movie);
-        while let Some(sample) = hand.next() {
-            *divisor = with_sample(reduction, *divisor, &sample);
-            if *divisor == 1 {
-                break;
-            }
-        }
-        hand.place()
-    };
-    walk.keep(place, steps);
+    divisor: u64,
+}
+
+impl Fold for Dividing {
+    ghost use Rattle.std.specs.Prelude.{◌≡◌};
+    ghost use Rattle.mp4_content.specs.words.Scales.{divided_with};
+
+    ghost takes = { λ d s n. n ≡ divided_with d s };
+
+    fn add(&mut self, sample: &SampleAt) {
+        self.divisor = with_sample(self.reduction, self.divisor, sample);
+    }
+
+    fn goes_on(&self) -> bool {
+        self.divisor != 1
+    }
 }
 
 // The same with those of all samples that a walk has still to come. It goes on until no number but
@@ -180,15 +167,12 @@ fn with_samples<S: Store, L: Ledger, M: Ledger>(
     ensures refusal { Refused S.Store store.old store.new result RefusesLoad }
     ensures looks { steps.new.looks ≡ steps.old.looks }
 {
-    let mut divisor = found;
-    with_hand(walk, reduction, movie, &mut divisor, steps);
-    while walk.load(movie, store, steps)? {
-        if divisor == 1 {
-            return Ok(divisor);
-        }
-        with_hand(walk, reduction, movie, &mut divisor, steps);
-    }
-    Ok(divisor)
+    let mut dividing = Dividing {
+        reduction,
+        divisor: found,
+    };
+    fold_samples(walk, &mut dividing, movie, store, steps)?;
+    Ok(dividing.divisor)
 }
 
 // By what the times of the track at this place are divided, whose head has these edits.

@@ -59,6 +59,8 @@ pub mod KeysExtended
 pub mod MoofSound
 pub mod TrafTaken
 pub mod TrackNumbers
+pub mod ComingFound
+pub mod Folded
 pub mod SampleTotals
 pub mod MoofBegins
 pub mod Assembled

@@ -1,3 +1,5 @@
+pub mod Coming
+pub mod Folding
 pub mod InHand
 pub mod Movies
 pub mod Reading

@@ -11,6 +11,7 @@ use Rattle.mp4_content.specs.declared.without.Without.{Without}
 use Rattle.mp4_content.specs.words.ComingLess.{asks_first, cto_left, lasts_left, track_reduction, reductions_of}
 use Rattle.mp4_content.specs.words.Scales.{scaling_steps}
 use Rattle.mp4_content.specs.declared.measures.Measures.{Measures}
+use Rattle.mp4_content.specs.declared.measures.Measuring.{Measuring}
 use Rattle.mp4_content.specs.declared.measures.Total.{Total}
 use Rattle.mp4_content.specs.declared.reduced.Reduction.{Reduction}
 
@@ -28,6 +29,9 @@ total_with r total s = record {
   duration = min (total.duration + lasts_left r s.number s.duration) (2 ^ 64 - 1);
   is_near = total.is_near && is_near (cto_left r s.cto);
 }
+
+abbrev pub measured_with : Measuring → SampleAt → Measuring
+measured_with m s = record m { total = total_with m.reduction m.total s }
 
 -- with some more
 abbrev pub total_from : Reduction → Total → List SampleAt → Total

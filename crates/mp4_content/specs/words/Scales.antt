@@ -9,6 +9,7 @@ use Rattle.mp4_content.specs.format.Reduced.{offset_left, start_left}
 use Rattle.mp4_content.specs.format.Remaining.{movie_divisor, track_divisor}
 use Rattle.mp4_content.specs.format.Timescales.{common_divisor, counted_duration, counted_media_time, counted_timescale}
 use Rattle.mp4_content.specs.declared.reduced.Reduction.{Reduction}
+use Rattle.mp4_content.specs.declared.scales.Dividing.{Dividing}
 use Rattle.mp4_content.specs.declared.scales.Scales.{Scales}
 use Rattle.mp4_content.specs.declared.without.Without.{Without}
 
@@ -66,3 +67,9 @@ sample_times_left r [] = []
 sample_times_left r (s ∷ samples) =
     pos (counted_duration r.leaving r.samples s.number s.duration)
     ∷ offset_left r.leaving r.offset s.cto ∷ sample_times_left r samples
+
+-- with those of one more sample
+abbrev pub divided_with : Dividing → SampleAt → Dividing
+divided_with d s = record d {
+  divisor = divisor_from d.divisor (sample_times_left d.reduction (s ∷ []));
+}

@@ -14,6 +14,7 @@ ghost use Rattle.mp4_present.specs.words.StoresRead.{OnlyReads, Refused};
 ghost use Rattle.mp4_present.specs.words.TrackWalks.{CountsOff, HasInHand, HasTraf, IsLoaded, IsWalkStill, KeepsRoom, TakesSteps, WhereStands};
 ghost use Rattle.mp4_boxes.specs.declared.refusal.Refusal.TheVariants as refusals;
 
+pub mod folding;
 pub mod fragment_number;
 pub mod going_back;
 pub mod in_hand;
