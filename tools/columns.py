@@ -59,7 +59,6 @@ def places() -> Iterator:
         'docs/OUTPUT.md', 'the name of each column: `([^`]*)`').split(), names
     yield 'docs/OUTPUT.md, --json', re.findall(r'`(\w+)`', behind(
         'docs/OUTPUT.md', r'With `--json` each line is (.*?), as named above')), in_objects
-    yield 'README.md', listed(behind('README.md', 'a line for each sample: ([^|]*) ')), names[1:]
     yield 'man/mp4norm.1', listed(behind(
         'man/mp4norm.1', r'for each sample of a track, in decoding order: ([^.]*)\.')), names
     yield 'python/mp4norm.py', re.findall(
