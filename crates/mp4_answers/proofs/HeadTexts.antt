@@ -28,20 +28,6 @@ nine_lines h a b c d e f g i j more others = simp (append_assoc, append-nil)
 pub four_lines : (a b c d e f g h : List ℕ) → (a ++ (b ++ (c ++ (d ++ [])))) ++ e ++ f ++ g ++ h ≡ a ++ b ++ c ++ d ++ e ++ f ++ g ++ h
 four_lines a b c d e f g h = simp (append_assoc, append-nil)
 
--- ---- what stands before each part, and behind it
-
-pub chain3 : (whole a b c : List ℕ) → whole ≡ a ++ b ++ c → whole ≡ a ++ (b ++ c)
-chain3 whole a b c e = e ∙ append_assoc a b c
-
-pub chain4 : (whole a b c d : List ℕ) → whole ≡ a ++ b ++ c ++ d → (whole ≡ a ++ (b ++ (c ++ d))) × (whole ≡ a ++ b ++ (c ++ d))
-chain4 whole a b c d e = let last = e ∙ append_assoc (a ++ b) c d in (last ∙ append_assoc a b (c ++ d), last)
-
-pub chain5 : (whole a b c d f : List ℕ) → whole ≡ a ++ b ++ c ++ d ++ f → (whole ≡ a ++ (b ++ (c ++ (d ++ f)))) × (whole ≡ a ++ b ++ (c ++ (d ++ f))) × (whole ≡ a ++ b ++ c ++ (d ++ f))
-chain5 whole a b c d f e =
-    let last = e ∙ append_assoc (a ++ b ++ c) d f in
-    let more = chain4 whole a b c (d ++ f) last in
-    (more.0, more.1, last)
-
 -- ---- heads
 
 pub movie_is : (m : MovieHead) (front : List ℕ) → front ≡ flat_map (λ (line : List ℕ). line) (movie_front m) → movie_lines m ≡ codes "movie\n" ++ front ++ flat_map (kept_lines (codes "kept")) m.kept

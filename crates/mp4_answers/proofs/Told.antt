@@ -1,14 +1,17 @@
 -- Texts that are taken along to a sink, one after the other.
-use Rattle.std.proofs.Common.{◌≡◌, ℕ, zero, suc, ◌+◌, ◌<◌, ◌≤◌, List, [], ◌∷◌, ◌++◌, length, take, drop, get_or, refl, sym, ap, subst, ◌∙◌, append_assoc, arith}
+use Rattle.std.proofs.Common.{◌≡◌, ℕ, zero, suc, ◌+◌, ◌<◌, ◌≤◌, List, [], ◌∷◌, ◌++◌, true, false, length, take, drop, get_or, refl, sym, ap, subst, ◌∙◌, append_assoc, arith}
 use Rattle.std.specs.Prelude.{map, flat_map, Result, Ok, Err}
 use Rattle.std.proofs.lemmas.List.{append-nil}
 use Rattle.mp4_boxes.specs.declared.refusal.Refusal.{Refusal}
+use Rattle.mp4_boxes.specs.declared.refusal.Refusal.TheVariants as refusals
 use Rattle.mp4_boxes.proofs.Plain.{plus_one, take_everything}
 use Rattle.mp4_store.specs.words.Device.{TakesPrefix}
 use Rattle.mp4_store.specs.declared.sink.Sink.{Ghosts as Sink}
 use Rattle.mp4_store.proofs.Known.{IsJoining, TakesPrefix-longer}
 use Rattle.mp4_present.specs.words.Carried.{RefusesPut, waiting}
 use Rattle.mp4_present.specs.words.OutBuffers.{TakesBytes, PutsFrontOf}
+use Rattle.mp4_present.specs.words.Latches.{Goes}
+use Rattle.mp4_present.specs.declared.latch.Latch.{Latch}
 use Rattle.mp4_present.specs.declared.out_buffer.OutBuffer.{OutBuffer}
 use Rattle.mp4_present.proofs.Carrying.{BytesGoOn-nothing, BytesGoOn-then, BytesGoOn-fails}
 use Rattle.mp4_answers.specs.words.Telling.{Tells}
@@ -82,6 +85,14 @@ module _ {Y : Type 0} (K : Sink Y) (joins : IsJoining K.takes) where
 
   pub told_all : {T : Type 0} (s t : Y) (c d : OutBuffer) (done whole : List ℕ) (r : T) → ToldSoFar K s t c d done → done ≡ whole → Tells K s t c d whole (Ok r)
   told_all s t c d done whole r p w = record { all = subst (λ (bs : List ℕ). TakesBytes K s t c d bs) w p.told; front = tt; puts = p.puts; refusal = tt }
+
+-- what went behind a latch that was closed
+module _ {Y : Type 0} (K : Sink Y) {a b : Latch Y} (text : List ℕ) (x : Goes K a b text) where
+  pub tells_all : {T : Type 0} (v : T) → b.has_failed ≡ false → Tells K a.sink.now b.sink.now a.out.now b.out.now text (Ok v)
+  tells_all v ok = let p = x.whole ok in record { all = p.taken; front = tt; puts = p.puts; refusal = tt }
+
+  pub tells_front : {T : Type 0} → a.has_failed ≡ false → b.has_failed ≡ true → Tells {T = T} K a.sink.now b.sink.now a.out.now b.out.now text (Err refusals.WriteFailed)
+  tells_front ok bad = let p = x.stops ok bad in record { all = tt; front = p.prefix; puts = tt; refusal = p.puts }
 
 -- the same text
 pub tells_is : {Y T : Type 0} (K : Sink Y) (s t : Y) (c d : OutBuffer) (x whole : List ℕ) (r : Result T Refusal) → Tells K s t c d x r → x ≡ whole → Tells K s t c d whole r

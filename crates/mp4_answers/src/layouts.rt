@@ -1,6 +1,7 @@
 //! The fields of boxes, by their names in the standard (ISO/IEC 14496-12): a table, and what it
 //! says of a box.
-ghost use Rattle.std.specs.Prelude.{◌≡◌, ◌+◌, ◌*◌, ◌≤◌, ◌<◌, length, option_map, IfSome};
+ghost use Rattle.std.specs.Prelude.{◌≡◌, ◌+◌, ◌*◌, ◌≤◌, ◌<◌, if◌then◌else◌, length, nat_le, option_map, IfSome};
+ghost use Rattle.mp4_boxes.specs.format.Bytes.{field};
 ghost use Rattle.std.specs.Option.{option_or};
 ghost use Rattle.mp4_answers.specs.format.Layouts.{count_of, fields_of, head_of, knows, first_of, layout_of, number_at, of_file, of_fragment, of_media, of_movie, of_places, of_samples, of_track, tail_of, width, width_of};
 ghost use Rattle.mp4_answers.specs.words.LayoutsSeen.{AreFew, HasFew, field_seen, fields_seen, layout_seen, layouts_seen, tail_seen};
@@ -383,6 +384,26 @@ impl LayoutField {
     }
 }
 
+// The version that the first byte of a box says; 0 where that isn't there.
+fn version_in(bytes: &[u8]) -> u8
+    ensures { result ≡ (if nat_le 1 (length bytes.now) then field bytes.now 0 1 else 0) }
+{
+    if bytes.is_empty() {
+        return 0;
+    }
+    bytes[0]
+}
+
+// The flags behind it; 0 where they aren't all there.
+fn flags_in(bytes: &[u8]) -> u32
+    ensures { result ≡ (if nat_le 4 (length bytes.now) then field bytes.now 1 3 else 0) }
+{
+    match front(bytes) {
+        Ok((_version, flags)) => flags,
+        Err(_) => 0,
+    }
+}
+
 /// How many bytes some fields have in all.
 pub(crate) fn width_of(fields: &[LayoutField], head: LeafHead) -> u64
     requires { length fields.now ≤ 64 }
@@ -428,19 +449,19 @@ impl RowCount {
 }
 
 impl Layout {
-    /// What version and flags the first bytes of a box say; 0 where it has none.
+    /// What version and flags the first bytes of a box say, as far as they are there; 0 where it
+    /// has none.
     pub(crate) fn head(&self, bytes: &[u8]) -> LeafHead
         ensures { result ≡ head_of (layout_seen self.now).versions bytes.now }
     {
-        let none = LeafHead {
-            version: 0,
-            flags: 0,
-        };
         match self.1 {
-            Without => none,
-            UpTo(_) | Any => match front(bytes) {
-                Ok((version, flags)) => LeafHead { version, flags },
-                Err(_) => none,
+            Without => LeafHead {
+                version: 0,
+                flags: 0,
+            },
+            UpTo(_) | Any => LeafHead {
+                version: version_in(bytes),
+                flags: flags_in(bytes),
             },
         }
     }

@@ -52,7 +52,7 @@ pub mod without_words;
 
 pub use box_names::Name;
 pub use commands::answer_len::text_len;
-pub use commands::box_path::{Way, way_to};
+pub use commands::box_path::{Way, WayBox, way_to};
 pub use commands::boxes::{boxes, boxes_as, boxes_with_fields};
 pub use commands::check::{check, check_counted};
 pub use commands::compare::{Asked, Failure, LineForm, Lines, Listing, Side, compare_files};

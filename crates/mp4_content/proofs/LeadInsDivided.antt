@@ -235,8 +235,8 @@ module _ (words : Without) (scale a : ℕ) (some : 0 < scale) (whole : a ∣ sca
   one_says : (t : Track) → says_more (lowest_one t) ≡ says_more t
   one_says t = says_after words a (own t) t
 
-  lowest_says : (tracks : List Track) → (list_any has_samples (map lowest_one tracks) && not (list_any says_more (map lowest_one tracks))) ≡ (list_any has_samples tracks && not (list_any says_more tracks))
-  lowest_says tracks = λ i. any_same has_samples lowest_one one_has tracks i && not (any_same says_more lowest_one one_says tracks i)
+  lowest_says : (tracks : List Track) → not (list_any says_more (map lowest_one tracks)) ≡ not (list_any says_more tracks)
+  lowest_says tracks = λ i. not (any_same says_more lowest_one one_says tracks i)
 
   abbrev AllLast : List Track → Type 0
   AllLast tracks = Divides a (segment_times tracks)
@@ -373,7 +373,7 @@ module _ (words l : Without) (ends : words.ends ≡ true → l.ends ≡ true) wh
           let a = divisor_of (movie_times (m words) r) in
           let q = lowest (m words) r in
           let wait = delay (first_moments r.movie.timescale r.tracks) in
-          let none = not_is_true (list_any says_more r.tracks) (and_is_true (list_any has_samples r.tracks) (not (list_any says_more r.tracks)) e).1 in
+          let none = not_is_true (list_any says_more r.tracks) e in
           let is : told true q ≡ record { movie = waiting_movie r.movie; tracks = map (parted words r.movie.timescale a h.0 whole.0 wait) r.tracks } =
           where_told (delay (first_moments q.movie.timescale q.tracks)) q (lowest_says words r.movie.timescale a h.0 whole.0 r.tracks ∙ e)
           ∙ (λ i. record { movie = waiting_movie r.movie; tracks = all_parted words r.movie.timescale a h.0 whole.0 r.tracks h.1 none whole.1 r.tracks h.1 none whole.1 i }) in

@@ -29,16 +29,12 @@ module _ (words : Without) where
   some_left [] = refl
   some_left (s ∷ samples) = refl
 
-  any_has : (place : ℕ) (tracks : List Track) → list_any has_samples (all_left place tracks) ≡ list_any has_samples tracks
-  any_has place [] = refl
-  any_has place (t ∷ tracks) = λ i. some_left t.samples i || any_has (suc place) tracks i
-
   any_says : (place : ℕ) (tracks : List Track) → list_any says_more (all_left place tracks) ≡ list_any says_more tracks
   any_says place [] = refl
   any_says place (t ∷ tracks) = λ i. (some_left t.samples i && not (begins_simply t)) || any_says (suc place) tracks i
 
   says_left : (p : Presentation) → says_beginnings (reduce m p) ≡ says_beginnings p
-  says_left p = λ i. any_has 1 p.tracks i && not (any_says 1 p.tracks i)
+  says_left p = λ i. not (any_says 1 p.tracks i)
 
   -- ---- when tracks begin
 

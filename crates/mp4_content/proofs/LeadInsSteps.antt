@@ -215,7 +215,7 @@ module _ (seconds : ℕ) where
   scales_stay (t ∷ tracks) h = (h.0, scales_stay tracks h.1)
 
   says_later : (p : Presentation) → says_beginnings (all_later seconds p) ≡ says_beginnings p
-  says_later p = λ i. any_same has_samples (start_later seconds) (λ t. refl) p.tracks i && not (any_same says_more (start_later seconds) (λ t. refl) p.tracks i)
+  says_later p = λ i. not (any_same says_more (start_later seconds) (λ t. refl) p.tracks i)
 
   none_later : (scale : ℕ) (tracks : List Track) → map (wait_track scale none) tracks ≡ map (wait_track scale none) (map (start_later seconds) tracks)
   none_later scale [] = refl

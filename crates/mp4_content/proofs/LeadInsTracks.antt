@@ -4,7 +4,7 @@ use Rattle.std.specs.Prelude.{not, ◌&&◌, ◌||◌}
 use Rattle.std.specs.List.{AllByRecursion, list_any}
 use Rattle.std.proofs.lemmas.Bool.Decides.{nat_tests}
 use Rattle.std.proofs.lemmas.Int.{ints}
-use Rattle.mp4_boxes.proofs.Plain.{false_true, and_is_true}
+use Rattle.mp4_boxes.proofs.Plain.{false_true, or_is_false}
 use Rattle.mp4_head.specs.format.Head.{Edit}
 use Rattle.mp4_present.specs.format.Presentation.{Sample, Track, Presentation}
 use Rattle.mp4_present.specs.format.Waiting.{microseconds, waiting, waiting_movie, waiting_track, waiting_tracks, waiting_all}
@@ -227,11 +227,10 @@ module _ (wait : Moment → ℕ) (p : Presentation) where
   says_waiting : says_beginnings p ≡ true → says_beginnings by_waits ≡ true
   says_waiting e =
       let scale = p.movie.timescale in
-      let some = any_same has_samples (wait_track scale wait) (still_has scale wait) p.tracks ∙ (and_is_true (list_any has_samples p.tracks) (not (list_any says_more p.tracks)) e).0 in
-      λ i. some i && not (none_more (wait_of scale wait) p.tracks i)
+      λ i. not (none_more (wait_of scale wait) p.tracks i)
 
   says_begun : says_beginnings (all_begun p) ≡ says_beginnings p
-  says_begun = λ i. any_same has_samples begun begun_has p.tracks i && not (any_same says_more begun begun_more p.tracks i)
+  says_begun = λ i. not (any_same says_more begun begun_more p.tracks i)
 
   pub says_still : says_beginnings (wait_each wait p) ≡ says_beginnings p
   says_still = by (says_beginnings p) refl
@@ -261,6 +260,16 @@ at_once : (xs : List Moment) → AllByRecursion HasScale xs → is_some xs ≡ t
 at_once [] h e = absurd (false_true e)
 at_once (x ∷ xs) h e = some_at_once x xs h
 
+-- where none has samples
+none_again : (scale : ℕ) (wait again : Moment → ℕ) (tracks : List Track) → list_any has_samples tracks ≡ false → map (wait_track microseconds again) (map (wait_track scale wait) tracks) ≡ map (wait_track scale wait) tracks
+none_again scale wait again [] e = refl
+none_again scale wait again (t ∷ tracks) e =
+    let parts = or_is_false (has_samples t) (list_any has_samples tracks) e in
+    let w = wait_of_none scale wait t parts.0 in
+    let v = wait_of_none microseconds again (wait_track scale wait t) (still_has scale wait t ∙ parts.0) in
+    let one = (λ i. begin_after (v i) (wait_track scale wait t)) ∙ after_again 0 (wait_of scale wait t) t ∙ (λ i. begin_after (sym w i) t) in
+    λ i. one i ∷ none_again scale wait again tracks parts.1 i
+
 pub waited_is_fixed : WaitedIsFixed
 waited_is_fixed p h = by (says_beginnings p) refl
   where
@@ -270,15 +279,23 @@ waited_is_fixed p h = by (says_beginnings p) refl
     moments : List Moment
     moments = first_moments scale p.tracks
 
+    wait_once : Moment → ℕ
+    wait_once = delay moments
+
+    same : (b : Bool) → list_any has_samples p.tracks ≡ b
+        → map (wait_track microseconds (delay (first_moments microseconds (map (wait_track scale wait_once) p.tracks)))) (map (wait_track scale wait_once) p.tracks) ≡ map (wait_track scale wait_once) p.tracks
+    same true k =
+        let first = mapped_any wait_once moments (at_once moments (moments_have_scales scale h.0 p.tracks h.1) (moments_are_some scale p.tracks k)) in
+        tracks_again scale wait_once (delay_fits moments) p.tracks h.1 first p.tracks h.1
+    same false k = none_again scale wait_once (delay (first_moments microseconds (map (wait_track scale wait_once) p.tracks))) p.tracks k
+
     by : (b : Bool) → says_beginnings p ≡ b → waited true (waited true p) ≡ waited true p
     by true e =
         let wait = delay moments in
         let q = by_waits wait p in
-        let some = (and_is_true (list_any has_samples p.tracks) (not (list_any says_more p.tracks)) e).0 in
-        let first = mapped_any wait moments (at_once moments (moments_have_scales scale h.0 p.tracks h.1) (moments_are_some scale p.tracks some)) in
         ap (waited true) (where_some wait p e)
         ∙ where_some (delay (first_moments microseconds q.tracks)) q (says_waiting wait p e)
-        ∙ (λ i. record { movie = q.movie; tracks = tracks_again scale wait (delay_fits moments) p.tracks h.1 first p.tracks h.1 i })
+        ∙ (λ i. record { movie = q.movie; tracks = same (list_any has_samples p.tracks) refl i })
         ∙ sym (where_some wait p e)
     by false e =
         let wait = delay moments in

@@ -50,8 +50,8 @@ beside_none : waited true (movie_of 600 (track_of 12800 0 (edit 100 (pos 0) ∷ 
     ≡ movie_of 1000000 (track_of 12800 0 [] [] ∷ track_of 3 0 (edit 312000 (negsuc 0) ∷ edit 0 (pos 0) ∷ []) sound ∷ track_of 48000 0 [] sound ∷ [])
 beside_none = refl
 
--- Where no track has samples all stays.
-no_samples : waited true (movie_of 600 (track_of 12800 0 [] [] ∷ track_of 48000 0 (edit 300 (negsuc 0) ∷ edit 0 (pos 0) ∷ []) [] ∷ [])) ≡ movie_of 600 (track_of 12800 0 [] [] ∷ track_of 48000 0 (edit 300 (negsuc 0) ∷ edit 0 (pos 0) ∷ []) [] ∷ [])
+-- Where no track has samples none waits.
+no_samples : waited true (movie_of 600 (track_of 12800 0 [] [] ∷ track_of 48000 0 (edit 300 (negsuc 0) ∷ edit 0 (pos 0) ∷ []) [] ∷ [])) ≡ movie_of 1000000 (track_of 12800 0 [] [] ∷ track_of 48000 0 [] [] ∷ [])
 no_samples = refl
 
 -- Sound waits 18,446,744,073,709,551,595 microseconds by an edit, and 20 and 5/6 more by its start: so 2^64 - 1, and 5/6 of a microsecond that isn't whole.

@@ -35,22 +35,16 @@ moments_are s (t ∷ tracks) [] h = absurd h
 moments_are s (t ∷ tracks) (None ∷ found) h = moments_are s tracks found h.1 ∙ sym (moments_of_none s t tracks h.0)
 moments_are s (t ∷ tracks) (Some b ∷ found) h = (λ i. h.0.1 s i ∷ moments_are s tracks found h.1 i) ∙ sym (moments_of_some s t tracks h.0.0)
 
-any_has : (s : ℕ) (m : Moment) (tracks : List Track) (found : List (Option Beginning)) → AllZip SaysBeginning tracks found → Among m (moments_in s found) → list_any has_samples tracks ≡ true
-any_has s m [] [] h k = absurd k
-any_has s m [] (b ∷ found) h k = absurd h
-any_has s m (t ∷ tracks) [] h k = absurd h
-any_has s m (t ∷ tracks) (None ∷ found) h k = or_right (has_samples t) (list_any has_samples tracks) (any_has s m tracks found h.1 k)
-any_has s m (t ∷ tracks) (Some b ∷ found) h k = or_left (has_samples t) (list_any has_samples tracks) h.0.0
-
-none_has : (s : ℕ) (tracks : List Track) (found : List (Option Beginning)) → AllZip SaysBeginning tracks found → moments_in s found ≡ [] → list_any has_samples tracks ≡ false
-none_has s [] [] h e = refl
-none_has s [] (b ∷ found) h e = absurd h
-none_has s (t ∷ tracks) [] h e = absurd h
-none_has s (t ∷ tracks) (None ∷ found) h e = λ i. h.0 i || none_has s tracks found h.1 e i
-none_has s (t ∷ tracks) (Some b ∷ found) h e = absurd (nil_cons (moment_of s b) (moments_in s found) (sym e))
+-- where no track has samples
+none_wait : (s : ℕ) (wait : Moment → ℕ) (tracks : List Track) (found : List (Option Beginning)) → AllZip SaysBeginning tracks found → moments_in s found ≡ [] → map (later_than s None) found ≡ map (wait_of s wait) tracks
+none_wait s wait [] [] h e = refl
+none_wait s wait [] (b ∷ found) h e = absurd h
+none_wait s wait (t ∷ tracks) [] h e = absurd h
+none_wait s wait (t ∷ tracks) (None ∷ found) h e = λ i. sym (wait_of_none s wait t h.0) i ∷ none_wait s wait tracks found h.1 e i
+none_wait s wait (t ∷ tracks) (Some b ∷ found) h e = absurd (nil_cons (moment_of s b) (moments_in s found) (sym e))
 
 waits_are : (s : ℕ) (first : Beginning) (wait : Moment → ℕ) → 0 < s → ((y : Moment) → 0 < y.scale → wait y ≡ later y (moment_of s first))
-    → (tracks : List Track) (found : List (Option Beginning)) → AllCanBegin found → AllZip SaysBeginning tracks found → map (later_than s first) found ≡ map (wait_of s wait) tracks
+    → (tracks : List Track) (found : List (Option Beginning)) → AllCanBegin found → AllZip SaysBeginning tracks found → map (later_than s (Some first)) found ≡ map (wait_of s wait) tracks
 waits_are s first wait some from [] [] can h = refl
 waits_are s first wait some from [] (b ∷ found) can h = absurd h
 waits_are s first wait some from (t ∷ tracks) [] can h = absurd h
@@ -68,22 +62,18 @@ not_said : (p : Presentation) → says_beginnings p ≡ false → told_waits p �
 not_said p e = λ i. if e i then Some (delays_of p) else None
 
 pub more_said : (p : Presentation) → list_any says_more p.tracks ≡ true → None ≡ told_waits p
-more_said p e = sym (not_said p ((λ i. list_any has_samples p.tracks && not (e i)) ∙ by (list_any has_samples p.tracks)))
-  where
-    by : (b : Bool) → (b && false) ≡ false
-    by true = refl
-    by false = refl
+more_said p e = sym (not_said p (λ i. not (e i)))
 
-pub none_begins : (s : ℕ) (p : Presentation) (found : List (Option Beginning)) → SayBeginnings p.tracks (Some found) → IsFirstOf s found None → None ≡ told_waits p
-none_begins s p found h e = sym (not_said p (λ i. none_has s p.tracks found h.1 e i && not (list_any says_more p.tracks)))
+first_waits : (s : ℕ) (p : Presentation) (found : List (Option Beginning)) (first : Option Beginning) → 0 < s → AllCanBegin found → AllZip SaysBeginning p.tracks found → IsFirstOf s found first → map (later_than s first) found ≡ map (wait_of s (delay (moments_in s found))) p.tracks
+first_waits s p found None some can h is = none_wait s (delay (moments_in s found)) p.tracks found h is
+first_waits s p found (Some first) some can h is = waits_are s first (delay (moments_in s found)) some is.2 p.tracks found can h
 
-pub all_begin : (s : ℕ) (p : Presentation) (found : List (Option Beginning)) (first : Beginning) → 0 < s → s ≡ p.movie.timescale → AllCanBegin found → SayBeginnings p.tracks (Some found) → IsFirstOf s found (Some first) → Some (map (later_than s first) found) ≡ told_waits p
+pub all_begin : (s : ℕ) (p : Presentation) (found : List (Option Beginning)) (first : Option Beginning) → 0 < s → s ≡ p.movie.timescale → AllCanBegin found → SayBeginnings p.tracks (Some found) → IsFirstOf s found first → Some (map (later_than s first) found) ≡ told_waits p
 all_begin s p found first some scale can h is =
     let ms = moments_are s p.tracks found h.1 in
-    let wait : Moment → ℕ = delay (moments_in s found) in
-    let own = waits_are s first (delay (moments_in s found)) some is.2 p.tracks found can h.1 in
+    let own = first_waits s p found first some can h.1 is in
     let same : map (wait_of s (delay (moments_in s found))) p.tracks ≡ delays_of p = (λ i. map (wait_of s (delay (ms i))) p.tracks) ∙ ap (λ n. map (wait_of n (delay (first_moments n p.tracks))) p.tracks) scale in
-    let yes : says_beginnings p ≡ true = λ i. any_has s (moment_of s first) p.tracks found h.1 is.1 i && not (h.0 i) in
+    let yes : says_beginnings p ≡ true = λ i. not (h.0 i) in
     ap (λ (ws : List ℕ). Some ws) (own ∙ same) ∙ sym (said p yes)
 
 -- ---- of what was read of a track
@@ -187,7 +177,8 @@ movie_scale file m tree o = by m.waits o.shown.2
     by (Some waits) told = let scale = ap (λ (h : heads.MovieHead). h.timescale) told.movie.head in omega (arith, scale)
 
 -- each lasts no longer than an edit can
-pub all_fit : (s : ℕ) (first : Beginning) (found : List (Option Beginning)) → AllByRecursion (λ n. n < 2 ^ 64) (map (later_than s first) found)
+pub all_fit : (s : ℕ) (first : Option Beginning) (found : List (Option Beginning)) → AllByRecursion (λ n. n < 2 ^ 64) (map (later_than s first) found)
 all_fit s first [] = tt
 all_fit s first (None ∷ found) = (omega arith, all_fit s first found)
-all_fit s first (Some b ∷ found) = (omega arith, all_fit s first found)
+all_fit s None (Some b ∷ found) = (omega arith, all_fit s None found)
+all_fit s (Some first) (Some b ∷ found) = (omega arith, all_fit s (Some first) found)

@@ -238,15 +238,15 @@ pub(crate) fn first_of(beginnings: &[Option<Beginning>], timescale: u32) -> Opti
 }
 
 // How much later than the first this one begins: a track without samples not at all.
-fn delay_from(one: Option<Beginning>, first: Beginning, timescale: u32) -> u64
+fn delay_from(one: Option<Beginning>, first: Option<Beginning>, timescale: u32) -> u64
     requires movie { 0 < timescale }
     requires one { IfSome one CanBegin }
-    requires first { CanBegin first }
+    requires first { IfSome first CanBegin }
     ensures { result ≡ later_than timescale first one }
 {
-    match one {
-        Some(beginning) => later_by(beginning, first, timescale),
-        None => 0,
+    match (one, first) {
+        (Some(beginning), Some(first)) => later_by(beginning, first, timescale),
+        _ => 0,
     }
 }
 
@@ -254,11 +254,11 @@ fn delay_from(one: Option<Beginning>, first: Beginning, timescale: u32) -> u64
 fn delays_from(
     alloc: Global,
     beginnings: &[Option<Beginning>],
-    first: Beginning,
+    first: Option<Beginning>,
     timescale: u32,
 ) -> Result<Vec<u64>, AllocError>
     requires movie { 0 < timescale }
-    requires first { CanBegin first }
+    requires first { IfSome first CanBegin }
     requires can { AllCanBegin beginnings.now }
     ensures { IfOk result
         (λ found. found.items ≡ map (later_than timescale first) beginnings.now) }
@@ -270,8 +270,7 @@ fn delays_from(
     Ok(delays)
 }
 
-/// How many microseconds each track waits; none where the movie's edits say more, or no track has
-/// samples.
+/// How many microseconds each track waits; none where the edits of a track with samples say more.
 pub fn waits<S: Store, L: Ledger, M: Ledger>(
     alloc: Global,
     movie: &Movie,
@@ -297,8 +296,6 @@ pub fn waits<S: Store, L: Ledger, M: Ledger>(
     let Some(all) = beginnings_of(alloc, head.tracks.as_slice(), movie, store, steps)? else {
         return Ok(None);
     };
-    let Some(first) = first_of(all.as_slice(), timescale) else {
-        return Ok(None);
-    };
+    let first = first_of(all.as_slice(), timescale);
     Ok(Some(delays_from(alloc, all.as_slice(), first, timescale)?))
 }

@@ -15,7 +15,7 @@ use Rattle.mp4_content.specs.words.ComingLess.{less, ComesLess}
 use Rattle.mp4_content.specs.words.GoneOn.{ComesMarked}
 use Rattle.mp4_plan.specs.words.HandsFed.{sizes_of}
 use Rattle.mp4_plan.specs.words.CarriedSamples.{AreThere}
-use Rattle.mp4_plan.proofs.FrontsPut.{front_as}
+use Rattle.mp4_present.proofs.FrontsPut.{front_as}
 use Rattle.mp4_plan.proofs.Pushes.{goes_on_as}
 use Rattle.mp4_content.proofs.ReducedTaken.{bytes_stay, less_length, less_sizes, above_less, less_drop, less_take}
 

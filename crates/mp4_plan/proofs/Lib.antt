@@ -61,11 +61,9 @@ pub mod DueTrees
 pub mod DueTurns
 pub mod SkippedTurns
 pub mod Lefts
-pub mod FrontsPut
 pub mod SizesSmall
 pub mod ComeAt
 pub mod PieceWritten
-pub mod PartsPut
 pub mod CarriedParts
 pub mod WritesOn
 pub mod WriterTurns

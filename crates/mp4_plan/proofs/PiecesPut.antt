@@ -1,11 +1,9 @@
 -- Pieces that are put over any store: so many follow, with so many samples and so many bytes of these.
 use Rattle.std.proofs.Common.{◌≡◌, ℕ, ◌+◌, ◌-◌, ◌*◌, ◌^◌, ◌<◌, ◌≤◌, List, [], ◌∷◌, ◌++◌, refl, sym, ap, subst, ◌∙◌, append_assoc, arith}
-use Rattle.std.specs.Prelude.{codes}
 use Rattle.std.specs.List.{sum_by}
 use Rattle.std.proofs.lemmas.List.Sums.{sum_by-append, sum_by-cons}
 use Rattle.std.proofs.lemmas.Grind.{flat_map-append}
 use Rattle.std.proofs.lemmas.List.{append-nil}
-use Rattle.mp4_boxes.specs.format.Written.{header_bytes}
 use Rattle.mp4_store.proofs.Known.{IsJoining}
 use Rattle.mp4_tables.specs.format.Groups.{GroupKey}
 use Rattle.mp4_present.specs.words.Carried.{BytesGoOn, GoOnBy}
@@ -13,12 +11,9 @@ use Rattle.mp4_present.specs.words.Movies.{MovieSeen}
 use Rattle.mp4_present.specs.declared.track_info.TrackInfo.{TrackInfo}
 use Rattle.mp4_present.proofs.Carrying.{BytesGoOn-nothing, BytesGoOn-then, BytesGoOn-all}
 use Rattle.mp4_plan.specs.words.PutPieces.{PutPiece, put_front, AreBytesOf, PiecesFollow, IsPutWhole}
-use Rattle.mp4_plan.specs.words.Sizes.{moof_sizes}
-use Rattle.mp4_plan.specs.words.Spelling.{moof_front, run_rows}
 use Rattle.mp4_plan.specs.words.UsedKeys.{group_bytes, some_groups}
 use Rattle.mp4_plan.specs.declared.planner.Planned.{Planned}
 use Rattle.mp4_plan.specs.declared.noted_rows.Row.{Row}
-use Rattle.mp4_plan.proofs.PartsPut.{go_four}
 
 -- the bytes of some pieces and of others behind them
 both_texts : (pieces more : List PutPiece) (text rest : List ℕ) → AreBytesOf pieces text → AreBytesOf more rest → AreBytesOf (pieces ++ more) (text ++ rest)
@@ -61,20 +56,11 @@ follow_then joins a b c held held_b held_c first samples bytes more_samples more
       put = BytesGoOn-then joins a b c held held_b held_c (first ++ p.text) q.text (first ++ (p.text ++ q.text)) p.put q.put (sym (append_assoc first p.text q.text));
     }
 
--- one, of which the parts in front are these, and then its bytes
-pub piece_follows : (q : PutPiece) (front mdat : List ℕ) {Y : Type 0} {takes : Y → Y → List ℕ → Type 0} (joins : IsJoining takes) (a b c d e f : Y) (h1 h2 h3 h4 h5 h6 : List ℕ) → front ≡ moof_front q.head q.planned (moof_sizes q.planned q.keys) → mdat ≡ header_bytes (codes "mdat") q.planned.bytes
-    → BytesGoOn (takes a b) h1 h2 front → BytesGoOn (takes b c) h2 h3 (run_rows q.planned q.rows) → BytesGoOn (takes c d) h3 h4 (some_groups q.rows q.planned q.groups) → BytesGoOn (takes d e) h4 h5 mdat → GoOnBy (takes e f) h5 h6 q.planned.bytes
-    → PiecesFollow (takes a f) h1 h6 [] q.planned.count q.planned.bytes
-piece_follows q front mdat {takes = takes} joins a b c d e f h1 h2 h3 h4 h5 h6 is_front is_mdat x y z u v =
-    let own_front = moof_front q.head q.planned (moof_sizes q.planned q.keys) in
-    let own_mdat : List ℕ = header_bytes (codes "mdat") q.planned.bytes in
-    let run = run_rows q.planned q.rows in
-    let groups = some_groups q.rows q.planned q.groups in
-    let first = subst (λ (bs : List ℕ). BytesGoOn (takes a b) h1 h2 bs) is_front x in
-    let last = subst (λ (bs : List ℕ). BytesGoOn (takes d e) h4 h5 bs) is_mdat u in
+-- one, of which what stands in front was taken along, and then its bytes
+pub piece_follows : (q : PutPiece) {Y : Type 0} {takes : Y → Y → List ℕ → Type 0} (joins : IsJoining takes) (a e f : Y) (h1 h5 h6 : List ℕ) → BytesGoOn (takes a e) h1 h5 (put_front q) → GoOnBy (takes e f) h5 h6 q.planned.bytes → PiecesFollow (takes a f) h1 h6 [] q.planned.count q.planned.bytes
+piece_follows q joins a e f h1 h5 h6 whole v =
     let counts = sum_by-cons (λ (x : PutPiece). x.planned.count) q [] in
     let sizes = sum_by-cons (λ (x : PutPiece). x.planned.bytes) q [] in
-    let whole = go_four own_front run groups own_mdat [] joins a b c d e f h1 h2 h3 h4 h5 h6 first y z last in
     record {
       pieces = q ∷ [];
       counts = omega (arith, counts);
@@ -98,12 +84,9 @@ all_follow m {takes = takes} joins a b c held held_b head samples bytes p counts
     }
 
 -- one `sbgp` more
-pub groups_more : (rows : List Row) (p : Planned) (used : List (ℕ × GroupKey)) (place : ℕ) (key : GroupKey) {Y : Type 0} {takes : Y → Y → List ℕ → Type 0} (joins : IsJoining takes) (a b c : Y) (h1 h2 h3 : List ℕ) → BytesGoOn (takes a b) h1 h2 (some_groups rows p used)
-    → BytesGoOn (takes b c) h2 h3 (group_bytes rows p place key)
-    → BytesGoOn (takes a c) h1 h3 (some_groups rows p (used ++ (place, key) ∷ []))
-groups_more rows p used place key joins a b c h1 h2 h3 x y =
-    BytesGoOn-then joins a b c h1 h2 h3 (some_groups rows p used) (group_bytes rows p place key) (some_groups rows p (used ++ (place, key) ∷ [])) x y
-    (flat_map-append (λ (g : ℕ × GroupKey). group_bytes rows p g.0 g.1) used ((place, key) ∷ []) ∙ ap (λ (bs : List ℕ). some_groups rows p used ++ bs) (append-nil (group_bytes rows p place key)))
+pub groups_more : (rows : List Row) (p : Planned) (used : List (ℕ × GroupKey)) (place : ℕ) (key : GroupKey) → some_groups rows p (used ++ (place, key) ∷ []) ≡ some_groups rows p used ++ group_bytes rows p place key
+groups_more rows p used place key =
+    flat_map-append (λ (g : ℕ × GroupKey). group_bytes rows p g.0 g.1) used ((place, key) ∷ []) ∙ ap (λ (bs : List ℕ). some_groups rows p used ++ bs) (append-nil (group_bytes rows p place key))
 
 -- ---- counts
 

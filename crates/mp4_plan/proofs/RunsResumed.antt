@@ -91,7 +91,3 @@ pub written_all : (f : ℕ × ℕ → List ℕ) (done : List (ℕ × ℕ)) (run 
 written_all f done run index rows k le all =
     let none : drop k rows ≡ [] = drop_all k rows le in
     ap (flat_map f) (sym all ∙ ap (λ rest. done ++ runs_left run.count run.index (map index rest)) none) ∙ flat_map-append f done (runs_left run.count run.index [])
-
--- the indexes from a row on
-pub index_first : (index : Row → ℕ) (rows : List Row) (k : ℕ) (d : Row) (v : ℕ) → k < length rows → v ≡ index (get_or rows k d) → map index (drop k rows) ≡ v ∷ map index (drop (k + 1) rows)
-index_first index rows k d v lt is = ap (map index) (drop_more rows k d lt) ∙ ap (λ x. x ∷ map index (drop (k + 1) rows)) (sym is)

@@ -49,7 +49,7 @@ use Rattle.mp4_plan.proofs.BytesLeft.{left_bytes, bytes_behind, all_bytes, none_
 use Rattle.mp4_plan.proofs.ComeAt.{come_at, come_with}
 use Rattle.mp4_plan.proofs.EachAt.{holds_with}
 use Rattle.mp4_plan.proofs.FirstTurn.{IsFirst, begins_at, first_turn}
-use Rattle.mp4_plan.proofs.FrontsPut.{stopped_at, stopped_behind}
+use Rattle.mp4_present.proofs.FrontsPut.{stopped_at, stopped_behind}
 use Rattle.mp4_plan.proofs.NextSamples.{first_at, firsts_set}
 use Rattle.mp4_plan.proofs.PieceCounts.{piece_bytes, piece_counts, piece_within, piece_gathers}
 use Rattle.mp4_plan.proofs.PieceWritten.{AreKeys, IsFew, turn_written, head_counts, bytes_of_two}

@@ -1,11 +1,9 @@
 //! The rows of a `moof`: those of `trun`, and the `sbgp`s behind it (ISO/IEC 14496-12, 8.8.8 and
 //! 8.9.2).
-ghost use Rattle.std.specs.Prelude.{◌≡◌, ℕ, ◌+◌, ◌-◌, ◌^◌, ◌<◌, ◌≤◌, List, [], ◌∷◌, ◌++◌, None, flat_map, length, IfSome, IfOk, MatchResult, OnOk};
-ghost use Rattle.mp4_store.specs.words.Device.{TakesPrefix};
+ghost use Rattle.std.specs.Prelude.{◌≡◌, ℕ, ◌+◌, ◌-◌, ◌^◌, ◌<◌, ◌≤◌, List, [], ◌∷◌, ◌++◌, None, flat_map, length, IfSome};
 ghost use Rattle.mp4_tables.specs.format.Groups.{GroupKey as KeySeen};
 ghost use Rattle.mp4_tables.specs.words.Keys.{key_seen, keys_seen};
-ghost use Rattle.mp4_present.specs.words.Carried.{BytesGoOn, waiting};
-ghost use Rattle.mp4_present.specs.words.OutBuffers.{Carries, OnlyPuts};
+ghost use Rattle.mp4_present.specs.words.Latches.{Goes};
 ghost use Rattle.mp4_plan.specs.format.Normal.{own};
 ghost use Rattle.mp4_plan.specs.words.Spelling.{offset_of, run_row, run_rows, group_row, group_rows, runs_left, WritesRuns};
 ghost use Rattle.mp4_plan.specs.words.UsedKeys.{used_seen, is_above, is_below, least_above, used_from, IsKeyAt, AreApart, key_front, group_front, group_bytes, groups_bytes, some_groups};
@@ -14,8 +12,8 @@ use crate::moof_sizes::{group_size, short};
 use crate::noted_rows::Row;
 use crate::planner::Planned;
 use crate::short_bytes::Spelled;
-use mp4_boxes::{FourCc, Refusal};
-use mp4_present::OutBuffer;
+use mp4_boxes::FourCc;
+use mp4_present::Latch;
 use mp4_store::Sink;
 use mp4_tables::{GroupKey, Keys};
 
@@ -65,11 +63,9 @@ fn spell_rows(rows: &[Row], planned: &Planned, out: &mut Spelled)
 pub(crate) fn carry_run<K: Sink>(
     rows: &[Row],
     planned: &Planned,
-    carrier: &mut OutBuffer,
-    sink: &mut K,
-) -> Result<(), Refusal>
-    ensures sink { OnlyPuts K.Sink sink.old sink.new carrier.old carrier.new result }
-    ensures put { Carries K.Sink sink.old sink.new carrier.old carrier.new result
+    latch: &mut Latch<K>,
+)
+    ensures { Goes K.Sink latch.old latch.new
         (run_rows planned.now rows.now) }
 {
     let mut block = Spelled::new();
@@ -77,10 +73,9 @@ pub(crate) fn carry_run<K: Sink>(
     while done < rows.len() {
         let end = rows.len().min(done + BLOCK);
         spell_rows(&rows[done..end], planned, &mut block);
-        carrier.carry(block.as_bytes(), sink)?;
+        latch.put(block.as_bytes());
         done = end;
     }
-    Ok(())
 }
 
 // The version of `sbgp`, its type, and in version 1 its parameter.
@@ -133,64 +128,53 @@ pub(crate) struct IndexRun {
 // Takes a run along, where there is one.
 fn carry_index_run<K: Sink>(
     run: IndexRun,
-    carrier: &mut OutBuffer,
-    sink: &mut K,
-) -> Result<(), Refusal>
-    ensures sink { OnlyPuts K.Sink sink.old sink.new carrier.old carrier.new result }
-    ensures put { Carries K.Sink sink.old sink.new carrier.old carrier.new result
+    latch: &mut Latch<K>,
+)
+    ensures { Goes K.Sink latch.old latch.new
         (flat_map group_row (runs_left run.count run.index [])) }
 {
     if run.count > 0 {
-        carrier.carry(group_row(run.count, run.index).as_bytes(), sink)?;
+        latch.put(group_row(run.count, run.index).as_bytes());
     }
-    Ok(())
 }
 
 // The run in hand with one index more. Where that is another one, the run is taken along.
 fn carry_index<K: Sink>(
     run: IndexRun,
     index: u16,
-    carrier: &mut OutBuffer,
-    sink: &mut K,
-) -> Result<IndexRun, Refusal>
+    latch: &mut Latch<K>,
+) -> IndexRun
     requires { run.count + 1 < 2 ^ 32 }
-    ensures sink { OnlyPuts K.Sink sink.old sink.new carrier.old carrier.new result }
-    ensures count { IfOk result (λ next. next.count ≤ run.count + 1) }
-    ensures put { (values : List ℕ) → MatchResult result
-        (λ next. WritesRuns (K.takes sink.old sink.new) (waiting carrier.old)
-        (waiting carrier.new) run next index values)
-        (λ _. TakesPrefix (K.takes sink.old sink.new) (waiting carrier.old
-        ++ flat_map group_row (runs_left run.count run.index (index ∷ values)))) }
+    ensures count { result.count ≤ run.count + 1 }
+    ensures put { (values : List ℕ) → WritesRuns (Goes K.Sink latch.old latch.new)
+        run result index values }
 {
     if run.count > 0 && run.index == index {
-        return Ok(IndexRun {
+        return IndexRun {
             count: run.count + 1,
             index,
-        });
+        };
     }
-    carry_index_run(run, carrier, sink)?;
-    Ok(IndexRun { count: 1, index })
+    carry_index_run(run, latch);
+    IndexRun { count: 1, index }
 }
 
 // Takes the rows of an `sbgp` along: the longest runs of equal indexes at the key of this place.
 fn carry_indexes<K: Sink>(
     rows: &[Row],
     place: u8,
-    carrier: &mut OutBuffer,
-    sink: &mut K,
-) -> Result<(), Refusal>
+    latch: &mut Latch<K>,
+)
     requires place { place < 4 }
     requires few { length rows.now < 2 ^ 32 - 1 }
-    ensures sink { OnlyPuts K.Sink sink.old sink.new carrier.old carrier.new result }
-    ensures put { Carries K.Sink sink.old sink.new carrier.old carrier.new result
+    ensures { Goes K.Sink latch.old latch.new
         (group_rows place rows.now) }
 {
     let mut run = IndexRun { count: 0, index: 0 };
     for row in rows {
-        run = carry_index(run, row.index_at(place), carrier, sink)?;
+        run = carry_index(run, row.index_at(place), latch);
     }
-    carry_index_run(run, carrier, sink)?;
-    Ok(())
+    carry_index_run(run, latch);
 }
 
 // A key that a piece uses, and its place among those of the track.
@@ -242,19 +226,16 @@ fn carry_group<K: Sink>(
     used: UsedKey,
     rows: &[Row],
     planned: &Planned,
-    carrier: &mut OutBuffer,
-    sink: &mut K,
-) -> Result<(), Refusal>
+    latch: &mut Latch<K>,
+)
     requires place { used.place < 4 }
     requires few { length rows.now < 2 ^ 32 - 1 }
-    ensures sink { OnlyPuts K.Sink sink.old sink.new carrier.old carrier.new result }
-    ensures put { Carries K.Sink sink.old sink.new carrier.old carrier.new result
+    ensures { Goes K.Sink latch.old latch.new
         (group_bytes rows.now planned.now used.place (key_seen used.key)) }
 {
     let front = group_front(used.key, planned.rows_at(used.place));
-    carrier.carry(front.as_bytes(), sink)?;
-    carry_indexes(rows, used.place, carrier, sink)?;
-    Ok(())
+    latch.put(front.as_bytes());
+    carry_indexes(rows, used.place, latch);
 }
 
 /// Takes an `sbgp` along for each key that is used, in the order of keys.
@@ -262,25 +243,22 @@ pub(crate) fn carry_groups<K: Sink>(
     rows: &[Row],
     planned: &Planned,
     keys: &Keys,
-    carrier: &mut OutBuffer,
-    sink: &mut K,
-) -> Result<(), Refusal>
+    latch: &mut Latch<K>,
+)
     requires { length rows.now < 2 ^ 32 - 1 }
-    ensures sink { OnlyPuts K.Sink sink.old sink.new carrier.old carrier.new result }
     ensures put { AreApart (keys_seen keys.now)
-        → Carries K.Sink sink.old sink.new carrier.old carrier.new result
+        → Goes K.Sink latch.old latch.new
         (groups_bytes rows.now planned.now (keys_seen keys.now)) }
-    ensures some { OnOk result ((groups : List (ℕ × KeySeen)) × (length groups ≤ 4)
-        × BytesGoOn (K.takes sink.old sink.new) (waiting carrier.old)
-        (waiting carrier.new) (some_groups rows.now planned.now groups)) }
+    ensures some { (groups : List (ℕ × KeySeen)) × (length groups ≤ 4)
+        × Goes K.Sink latch.old latch.new
+        (some_groups rows.now planned.now groups) }
 {
     let mut behind = None;
     for _key in 0..keys.count() {
         let Some(used) = next_key(planned, keys, behind) else {
-            return Ok(());
+            return;
         };
-        carry_group(used, rows, planned, carrier, sink)?;
+        carry_group(used, rows, planned, latch);
         behind = Some(used.key.rank());
     }
-    Ok(())
 }

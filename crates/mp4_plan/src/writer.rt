@@ -49,7 +49,7 @@ use crate::stretches::Stretches;
 use crate::track_pieces::note_marked;
 use mp4_boxes::{FourCc, Refusal, Steps, header};
 use mp4_content::{Content, TrackLeft, Without};
-use mp4_present::{Movie, OutBuffer, Walk};
+use mp4_present::{Latch, Movie, OutBuffer, Walk};
 use mp4_store::{Sink, Store};
 use mp4_tables::SampleAt;
 use std::alloc::Global;
@@ -354,11 +354,13 @@ impl Writer {
         let sizes = sizes_of(planned, &keys);
         let rows = &self.notes.rows[..planned.count as usize];
         let front = moof_front(&head, planned, &sizes);
-        self.carrier.carry(front.as_bytes(), sink)?;
-        carry_run(rows, planned, &mut self.carrier, sink)?;
-        carry_groups(rows, planned, &keys, &mut self.carrier, sink)?;
+        let mut latch = Latch::new(&mut self.carrier, sink);
+        latch.put(front.as_bytes());
+        carry_run(rows, planned, &mut latch);
+        carry_groups(rows, planned, &keys, &mut latch);
         let mdat = header(FourCc(*b"mdat"), planned.bytes);
-        self.carrier.carry(mdat.bytes(), sink)?;
+        latch.put(mdat.bytes());
+        latch.close()?;
         self.carry_data(noted, movie, store, sink, steps)
     }
 

@@ -1,8 +1,5 @@
 -- What was put when bytes could not be taken along further: a front of all that was to follow.
-use Rattle.std.proofs.Common.{◌≡◌, ℕ, List, [], ◌++◌, append-nil, take, drop, sym, ap, subst, ◌∙◌, append_assoc}
-use Rattle.std.specs.Prelude.{flat_map}
-use Rattle.std.proofs.lemmas.Grind.{flat_map-append}
-use Rattle.std.proofs.lemmas.List.{take-append-drop}
+use Rattle.std.proofs.Common.{◌≡◌, ℕ, List, [], ◌++◌, append-nil, sym, ap, subst, ◌∙◌, append_assoc}
 use Rattle.mp4_store.specs.words.Device.{TakesPrefix}
 use Rattle.mp4_store.proofs.Known.{IsJoining, TakesPrefix-longer}
 use Rattle.mp4_present.specs.words.Carried.{BytesGoOn}
@@ -26,10 +23,6 @@ stopped_first Took held piece rest whole q e = rw (e, ← append_assoc held piec
 -- nothing more was taken along
 pub stopped_behind : (Took : List ℕ → Type 0) (held held_b done rest whole : List ℕ) → BytesGoOn Took held held_b done → whole ≡ done ++ rest → TakesPrefix Took (held ++ whole)
 stopped_behind Took held held_b done rest whole p e = rw e (BytesGoOn-front Took held held_b done rest p)
-
--- the bytes of the first of a list and of the others
-pub bytes_of_both : {A : Type 0} (f : A → List ℕ) (n : ℕ) (xs : List A) → flat_map f xs ≡ flat_map f (take n xs) ++ flat_map f (drop n xs)
-bytes_of_both {A} f n xs = ap (λ (ys : List A). flat_map f ys) (sym (take-append-drop n xs)) ∙ flat_map-append f (take n xs) (drop n xs)
 
 -- a front of the same bytes
 pub front_as : (Took : List ℕ → Type 0) (held xs ys : List ℕ) → TakesPrefix Took (held ++ xs) → xs ≡ ys → TakesPrefix Took (held ++ ys)

@@ -27,6 +27,8 @@ pub mod HeldAgain
 pub mod JoinedSamples
 pub mod PlainLists
 pub mod Carrying
+pub mod FrontsPut
+pub mod Latched
 pub mod Hands
 pub mod HandSizes
 pub mod TablesKept

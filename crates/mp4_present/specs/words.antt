@@ -33,6 +33,7 @@ pub mod NumbersTold
 pub mod StoresRead
 pub mod HandCarried
 pub mod OutBuffers
+pub mod Latches
 pub mod ToOpen
 pub mod TrackWalks
 pub mod WalkMarks

@@ -316,11 +316,12 @@ has_version versions.Without = false
 has_version (versions.UpTo last) = true
 has_version versions.Any = true
 
--- version and flags; 0 where a box has none
+-- version and flags, as far as they are there; 0 where a box has none
 abbrev pub head_of : Versions → List ℕ → LeafHead
-head_of known front = if has_version known && nat_le 4 (length front)
-    then record { version = field front 0 1; flags = field front 1 3 }
-    else record { version = 0; flags = 0 }
+head_of known front = if has_version known then record {
+  version = if nat_le 1 (length front) then field front 0 1 else 0;
+  flags = if nat_le 4 (length front) then field front 1 3 else 0;
+} else record { version = 0; flags = 0 }
 
 abbrev pub knows : Versions → LeafHead → Bool
 knows (versions.UpTo last) head = nat_le head.version last

@@ -17,11 +17,26 @@ use mp4_present::{TopBox, read_bytes, read_top_header};
 use mp4_store::Store;
 use std::alloc::{AllocError, Global};
 
-/// A way, spelled, and the type of its last box: that of the file where it has none.
+/// A box on a way: its type, and where it begins in the file.
+#[derive(Clone, Copy, Debug, PartialEq, Eq)]
+pub struct WayBox {
+    pub kind: FourCc,
+    pub offset: u64,
+}
+
+/// A way, spelled, and its last box: the file where it has none.
 #[derive(Drop)]
 pub struct Way {
     pub text: Vec<u8>,
-    pub last: FourCc,
+    pub last: WayBox,
+}
+
+// The box as one of a way.
+fn on_way(view: &BoxView) -> WayBox {
+    WayBox {
+        kind: view.kind(),
+        offset: view.offset(),
+    }
 }
 
 // Whether the place lies in the box.
@@ -99,39 +114,38 @@ fn push_step(text: &mut Vec<u8>, kind: FourCc, number: Option<u64>) -> Result<()
     text.extend_from_slice(step_line(kind, number).as_bytes())
 }
 
-// Adds the entry of a box in which the place lies, if there is one, and gives the type of the last
-// box.
-fn push_entry(text: &mut Vec<u8>, view: BoxView, place: u64) -> Result<FourCc, AllocError>
+// Adds the entry of a box in which the place lies, if there is one, and gives the last box.
+fn push_entry(text: &mut Vec<u8>, view: BoxView, place: u64) -> Result<WayBox, AllocError>
     ensures { OnOk result (AddsWay place (box_seen view.entry) text.old.items text.new.items) }
 {
     let Some(entries) = entries_in(view) else {
-        return Ok(view.kind());
+        return Ok(on_way(&view));
     };
     let Some(entry) = held_among(entries, place) else {
-        return Ok(view.kind());
+        return Ok(on_way(&view));
     };
     let number = number_among(entries_in(view), entry.kind(), entry.offset());
     push_step(text, entry.kind(), number)?;
-    Ok(entry.kind())
+    Ok(on_way(&entry))
 }
 
-// Adds the way on from a box, and gives the type of the last one.
-fn push_way(text: &mut Vec<u8>, view: BoxView, rule: Rule, place: u64) -> Result<FourCc, AllocError>
+// Adds the way on from a box, and gives the last one.
+fn push_way(text: &mut Vec<u8>, view: BoxView, rule: Rule, place: u64) -> Result<WayBox, AllocError>
     ensures { OnOk result (AddsWay place (box_seen view.entry) text.old.items text.new.items) }
 {
     let Some(inner) = rule_inside(rule, view.kind()) else {
         return push_entry(text, view, place);
     };
     let Some(boxes) = boxes_in(&view) else {
-        return Ok(view.kind());
+        return Ok(on_way(&view));
     };
     let Some(child) = held_among(boxes, place) else {
-        return Ok(view.kind());
+        return Ok(on_way(&view));
     };
     let number = number_among(boxes_in(&view), child.kind(), child.offset());
     push_step(text, child.kind(), number)?;
     if child.offset() == place {
-        return Ok(child.kind());
+        return Ok(on_way(&child));
     }
     push_way(text, child, inner, place)
 }
@@ -190,14 +204,14 @@ pub fn number_at_top<S: Store>(store: &mut S, kind: FourCc, place: u64) -> Optio
     (count > 1 || kind == FourCc(*b"moof")).then_some(number)
 }
 
-// Adds the way on from a box of the file itself, and gives the type of the last one.
+// Adds the way on from a box of the file itself, and gives the last one.
 fn push_top_way<S: Store>(
     text: &mut Vec<u8>,
     alloc: Global,
     store: &mut S,
     top: TopBox,
     place: u64,
-) -> Result<FourCc, Refusal>
+) -> Result<WayBox, Refusal>
     requires { IsWithin (S.file store.old) top }
     ensures store { KeepsFile S.Store store.old store.new }
     ensures way { OnOk result (WhereHonest S.Store store.old
@@ -206,7 +220,10 @@ fn push_top_way<S: Store>(
 {
     let header = top.header;
     if top.offset == place || rule_inside(Rule::File, header.kind).is_none() {
-        return Ok(header.kind);
+        return Ok(WayBox {
+            kind: header.kind,
+            offset: top.offset,
+        });
     }
     let at = top.offset + u64::from(header.header);
     let payload = read_bytes(alloc, store, at, header.end - at)?;
@@ -226,7 +243,10 @@ pub fn way_to<S: Store>(alloc: Global, store: &mut S, place: u64) -> Result<Way,
     let Some(top) = top_at(store, place) else {
         return Ok(Way {
             text,
-            last: FourCc::FILE,
+            last: WayBox {
+                kind: FourCc::FILE,
+                offset: 0,
+            },
         });
     };
     let number = number_at_top(store, top.header.kind, top.offset);

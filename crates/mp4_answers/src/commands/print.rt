@@ -1,7 +1,7 @@
 //! The text of what a file says.
 ghost use Rattle.std.specs.Prelude.{◌≡◌, ◌+◌, ◌<◌, ◌≤◌, ◌++◌, [], flat_map, length, take, IfOk, OnErr, OnOk, codes};
 ghost use Rattle.sha2.specs.Sha256.{sha256};
-ghost use Rattle.mp4_head.specs.words.Seen.{track_seen};
+ghost use Rattle.mp4_head.specs.words.Seen.{movie_seen, track_seen};
 ghost use Rattle.mp4_store.specs.words.Device.{range};
 ghost use Rattle.mp4_content.specs.format.Reduced.{start_left};
 ghost use Rattle.mp4_content.specs.format.Timescales.{divided};
@@ -15,7 +15,7 @@ ghost use Rattle.mp4_present.specs.words.TrackWalks.{WhereMayTake};
 ghost use Rattle.mp4_answers.specs.format.Answers.{Printed};
 ghost use Rattle.mp4_answers.specs.format.Run.{KeepsFile, run_of};
 ghost use Rattle.mp4_answers.specs.format.Steps.{FindsWithin, PrintsWithin, TakesEach};
-ghost use Rattle.mp4_answers.specs.format.Text.{front_lines, head_lines, number_line, samples_heading};
+ghost use Rattle.mp4_answers.specs.format.Text.{front_lines, head_lines, movie_lines, number_line, samples_heading};
 ghost use Rattle.mp4_answers.specs.words.PrintedTracks.{AreWalks, LieBelow, OfHandLines, OfTrackLines, OfWalkLines, TellsOn, TellsTracks, WhereHeads};
 ghost use Rattle.mp4_answers.specs.words.Telling.{Tells, TellsText};
 ghost use Rattle.mp4_answers.specs.words.SampleMessages.{told_lines};
@@ -28,14 +28,14 @@ use crate::digests::DIGEST;
 use crate::digests::messages::Message;
 use crate::digests::side_by_side::find_digests;
 use crate::selection::Selection;
-use crate::text::head_lines::{put_head, put_heading, put_movie};
+use crate::text::head_lines::{put_head, put_heading, put_movie_lines};
 use crate::text::named_lines::{number, put_all_named};
 use crate::text::sample_texts::{LONGEST, SampleStyle, write_sample};
 use crate::text::tally::say_words;
 use mp4_boxes::{Memory, Refusal, Steps};
 use mp4_content::{Scales, Without, head_left, payloads_left, reduction_of};
-use mp4_head::TrackHead;
-use mp4_present::{Movie, OutBuffer, Stretch, Walk};
+use mp4_head::{MovieHead, TrackHead};
+use mp4_present::{Latch, Movie, OutBuffer, Stretch, Walk};
 use mp4_store::{Sink, Store};
 use mp4_tables::{Keys, SampleAt, Samples};
 use std::alloc::{AllocError, Global};
@@ -434,10 +434,26 @@ fn put_front<K: Sink>(
         (head_lines (track_seen head.now)
         ++ number_line (codes "start") start ++ samples_heading head.now.id) result }
 {
-    put_head(head, text, sink)?;
-    put_all_named(&[number(b"start", start)], text, sink)?;
+    let mut latch = Latch::new(text, sink);
+    put_head(head, &mut latch);
+    put_all_named(&[number(b"start", start)], &mut latch);
     let end = b": duration, offset, flags, description, size, SHA-256, groups\n";
-    put_heading(b"samples of track ", head.id, end, text, sink)
+    put_heading(b"samples of track ", head.id, end, &mut latch);
+    Ok(latch.close()?)
+}
+
+// Puts what the movie says.
+fn put_movie<K: Sink>(
+    head: &MovieHead,
+    text: &mut OutBuffer,
+    sink: &mut K,
+) -> Result<(), Refusal>
+    ensures { Tells K.Sink sink.old sink.new text.old text.new
+        (movie_lines (movie_seen head.now)) result }
+{
+    let mut latch = Latch::new(text, sink);
+    put_movie_lines(head, &mut latch);
+    Ok(latch.close()?)
 }
 
 // A walk over the samples of each track, the last track's first.

@@ -3,14 +3,14 @@ ghost use Rattle.std.specs.Prelude.{◌≡◌, ◌+◌, ◌≤◌, ◌++◌, ◌
 ghost use Rattle.std.specs.Fmt.{signed_decimal};
 ghost use Rattle.mp4_head.specs.words.Seen.{edit_seen};
 ghost use Rattle.mp4_answers.specs.format.Text.{edit_line, edit_words};
-ghost use Rattle.mp4_answers.specs.words.Telling.{Tells, said_line, said_text, said_words};
+ghost use Rattle.mp4_answers.specs.words.Telling.{said_line, said_text, said_words};
+ghost use Rattle.mp4_present.specs.words.Latches.{Goes};
 ghost use Rattle.mp4_answers.specs.declared.text.named_lines.Said.TheVariants as said;
 
 use crate::text::digits::{write_byte, write_digits, write_hex};
 use crate::text::text_parts::{LINE_FEED, SPACE, put_parts};
-use mp4_boxes::Refusal;
 use mp4_head::Edit;
-use mp4_present::OutBuffer;
+use mp4_present::Latch;
 use mp4_store::Sink;
 
 /// What is said: a number, decimal or of so many hexadecimal digits; or several numbers.
@@ -147,50 +147,46 @@ fn write_said(text: &mut [u8], end: usize, said: &Said) -> usize
 }
 
 // Puts the line of a name.
-fn put_named<K: Sink>(named: &Named, carrier: &mut OutBuffer, sink: &mut K) -> Result<(), Refusal>
-    ensures { Tells K.Sink sink.old sink.new carrier.old carrier.new (said_line named.now) result }
+fn put_named<K: Sink>(named: &Named, latch: &mut Latch<K>)
+    ensures { Goes K.Sink latch.old latch.new (said_line named.now) }
 {
     let mut text = [0; LONGEST];
     let start = write_said(&mut text, LONGEST, &named.said);
     let (_unused, said) = text.split_at(start);
     let parts = [SPACE, named.name, b":", said, LINE_FEED];
-    put_parts(&parts, carrier, sink)
+    put_parts(&parts, latch);
 }
 
 /// Puts the lines of some names.
 pub(crate) fn put_all_named<K: Sink>(
     all: &[Named],
-    carrier: &mut OutBuffer,
-    sink: &mut K,
-) -> Result<(), Refusal>
-    ensures { Tells K.Sink sink.old sink.new carrier.old carrier.new
-        (flat_map said_line all.now) result }
+    latch: &mut Latch<K>,
+)
+    ensures { Goes K.Sink latch.old latch.new
+        (flat_map said_line all.now) }
 {
     for named in all {
-        put_named(named, carrier, sink)?;
+        put_named(named, latch);
     }
-    Ok(())
 }
 
 // Puts the line of an edit.
-fn put_edit<K: Sink>(edit: &Edit, carrier: &mut OutBuffer, sink: &mut K) -> Result<(), Refusal>
-    ensures { Tells K.Sink sink.old sink.new carrier.old carrier.new
-        (edit_line (edit_seen edit.now)) result }
+fn put_edit<K: Sink>(edit: &Edit, latch: &mut Latch<K>)
+    ensures { Goes K.Sink latch.old latch.new
+        (edit_line (edit_seen edit.now)) }
 {
-    put_named(&saying(b"edit", Said::Edit(*edit)), carrier, sink)
+    put_named(&saying(b"edit", Said::Edit(*edit)), latch);
 }
 
 /// Puts the line of each edit.
 pub(crate) fn put_edits<K: Sink>(
     edits: &[Edit],
-    carrier: &mut OutBuffer,
-    sink: &mut K,
-) -> Result<(), Refusal>
-    ensures { Tells K.Sink sink.old sink.new carrier.old carrier.new
-        (flat_map edit_line (map edit_seen edits.now)) result }
+    latch: &mut Latch<K>,
+)
+    ensures { Goes K.Sink latch.old latch.new
+        (flat_map edit_line (map edit_seen edits.now)) }
 {
     for edit in edits {
-        put_edit(edit, carrier, sink)?;
+        put_edit(edit, latch);
     }
-    Ok(())
 }

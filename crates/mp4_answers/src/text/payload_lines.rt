@@ -3,14 +3,14 @@ ghost use Rattle.std.specs.Prelude.{◌≡◌, ◌+◌, ◌*◌, ◌/◌, ◌<�
 ghost use Rattle.mp4_head.specs.words.Seen.{kept_seen};
 ghost use Rattle.mp4_answers.specs.format.Texts.{hex_text};
 ghost use Rattle.mp4_answers.specs.format.Text.{dump_line, dump_lines, is_plain_type, kept_lines, payload_lines, shown_byte, spelled_type};
-ghost use Rattle.mp4_answers.specs.words.Telling.{Tells};
+ghost use Rattle.mp4_present.specs.words.Latches.{Goes};
 
 use crate::digests::{DIGEST, digest};
 use crate::text::digits::{hex_digit, write_byte, write_bytes, write_digits};
 use crate::text::text_parts::{LINE_FEED, SPACE, put_parts};
-use mp4_boxes::{FourCc, Refusal};
+use mp4_boxes::FourCc;
 use mp4_head::Kept;
-use mp4_present::OutBuffer;
+use mp4_present::Latch;
 use mp4_store::Sink;
 
 /// The most bytes that are spelled; of a longer payload the digest is told.
@@ -82,31 +82,30 @@ fn write_dump(text: &mut [u8], end: usize, bytes: &[u8]) -> usize
 }
 
 // Puts a line of at most sixteen bytes.
-fn put_dump<K: Sink>(bytes: &[u8], carrier: &mut OutBuffer, sink: &mut K) -> Result<(), Refusal>
+fn put_dump<K: Sink>(bytes: &[u8], latch: &mut Latch<K>)
     requires { length bytes.now ≤ 16 }
-    ensures { Tells K.Sink sink.old sink.new carrier.old carrier.new (dump_line bytes.now) result }
+    ensures { Goes K.Sink latch.old latch.new (dump_line bytes.now) }
 {
     let mut text = [0; LONGEST];
     let start = write_dump(&mut text, LONGEST, bytes);
     let (_unused, line) = text.split_at(start);
-    carrier.carry(line, sink)
+    latch.put(line);
 }
 
 // Puts the lines of a payload.
-fn put_dumps<K: Sink>(bytes: &[u8], carrier: &mut OutBuffer, sink: &mut K) -> Result<(), Refusal>
+fn put_dumps<K: Sink>(bytes: &[u8], latch: &mut Latch<K>)
     requires { length bytes.now ≤ 4096 }
-    ensures { Tells K.Sink sink.old sink.new carrier.old carrier.new
-        (dump_lines ((length bytes.now + 15) / 16) bytes.now) result }
+    ensures { Goes K.Sink latch.old latch.new
+        (dump_lines ((length bytes.now + 15) / 16) bytes.now) }
 {
     let mut rest = bytes;
     let mut left = (bytes.len() + 15) / IN_LINE;
     while left > 0 {
         let (line, more) = rest.split_at(rest.len().min(IN_LINE));
-        put_dump(line, carrier, sink)?;
+        put_dump(line, latch);
         rest = more;
         left -= 1;
     }
-    Ok(())
 }
 
 // Puts the length of a payload behind its name, and its bytes.
@@ -114,19 +113,18 @@ fn put_spelled<K: Sink>(
     name: &[u8],
     kind: &[u8],
     bytes: &[u8],
-    carrier: &mut OutBuffer,
-    sink: &mut K,
-) -> Result<(), Refusal>
+    latch: &mut Latch<K>,
+)
     requires { length bytes.now ≤ 4096 }
-    ensures { Tells K.Sink sink.old sink.new carrier.old carrier.new
-        (payload_lines (name.now ++ kind.now) bytes.now) result }
+    ensures { Goes K.Sink latch.old latch.new
+        (payload_lines (name.now ++ kind.now) bytes.now) }
 {
     let mut count = [0; 20];
     let start = write_digits(&mut count, 20, bytes.len() as u64);
     let (_unused, number) = count.split_at(start);
     let parts = [SPACE, name, kind, b": ", number, b" bytes\n"];
-    put_parts(&parts, carrier, sink)?;
-    put_dumps(bytes, carrier, sink)
+    put_parts(&parts, latch);
+    put_dumps(bytes, latch);
 }
 
 // Puts the length of a payload behind its name, and the digest of its bytes.
@@ -134,12 +132,11 @@ fn put_told<K: Sink>(
     name: &[u8],
     kind: &[u8],
     bytes: &[u8],
-    carrier: &mut OutBuffer,
-    sink: &mut K,
-) -> Result<(), Refusal>
+    latch: &mut Latch<K>,
+)
     requires { 4096 < length bytes.now }
-    ensures { Tells K.Sink sink.old sink.new carrier.old carrier.new
-        (payload_lines (name.now ++ kind.now) bytes.now) result }
+    ensures { Goes K.Sink latch.old latch.new
+        (payload_lines (name.now ++ kind.now) bytes.now) }
 {
     let mut count = [0; 20];
     let start = write_digits(&mut count, 20, bytes.len() as u64);
@@ -149,7 +146,7 @@ fn put_told<K: Sink>(
     let (_unused, digest) = digits.split_at(first);
     let told = b" bytes, SHA-256 ";
     let parts = [SPACE, name, kind, b": ", number, told, digest, LINE_FEED];
-    put_parts(&parts, carrier, sink)
+    put_parts(&parts, latch);
 }
 
 /// Puts a payload under a name of two parts: its length, and its bytes, or their digest where they
@@ -158,16 +155,15 @@ pub(crate) fn put_payload<K: Sink>(
     name: &[u8],
     kind: &[u8],
     bytes: &[u8],
-    carrier: &mut OutBuffer,
-    sink: &mut K,
-) -> Result<(), Refusal>
-    ensures { Tells K.Sink sink.old sink.new carrier.old carrier.new
-        (payload_lines (name.now ++ kind.now) bytes.now) result }
+    latch: &mut Latch<K>,
+)
+    ensures { Goes K.Sink latch.old latch.new
+        (payload_lines (name.now ++ kind.now) bytes.now) }
 {
     if bytes.len() <= MOST_SPELLED {
-        put_spelled(name, kind, bytes, carrier, sink)
+        put_spelled(name, kind, bytes, latch);
     } else {
-        put_told(name, kind, bytes, carrier, sink)
+        put_told(name, kind, bytes, latch);
     }
 }
 
@@ -175,16 +171,14 @@ pub(crate) fn put_payload<K: Sink>(
 pub(crate) fn put_payloads<K: Sink>(
     name: &[u8],
     payloads: &[&[u8]],
-    carrier: &mut OutBuffer,
-    sink: &mut K,
-) -> Result<(), Refusal>
-    ensures { Tells K.Sink sink.old sink.new carrier.old carrier.new
-        (flat_map (payload_lines name.now) (map (λ p. p.now) payloads.now)) result }
+    latch: &mut Latch<K>,
+)
+    ensures { Goes K.Sink latch.old latch.new
+        (flat_map (payload_lines name.now) (map (λ p. p.now) payloads.now)) }
 {
     for payload in payloads {
-        put_payload(name, b"", payload, carrier, sink)?;
+        put_payload(name, b"", payload, latch);
     }
-    Ok(())
 }
 
 // Whether each byte stands for itself in a type.
@@ -215,31 +209,28 @@ pub(crate) fn write_type(text: &mut [u8], end: usize, kind: FourCc) -> usize
 pub(crate) fn put_kept<K: Sink>(
     name: &[u8],
     kept: &Kept,
-    carrier: &mut OutBuffer,
-    sink: &mut K,
-) -> Result<(), Refusal>
-    ensures { Tells K.Sink sink.old sink.new carrier.old carrier.new
-        (kept_lines name.now (kept_seen kept.now)) result }
+    latch: &mut Latch<K>,
+)
+    ensures { Goes K.Sink latch.old latch.new
+        (kept_lines name.now (kept_seen kept.now)) }
 {
     let mut text = [0; 10];
     let mut start = write_type(&mut text, 10, kept.kind);
     start = write_byte(&mut text, start, b' ');
     let (_unused, kind) = text.split_at(start);
-    put_payload(name, kind, kept.payload, carrier, sink)
+    put_payload(name, kind, kept.payload, latch);
 }
 
 /// Puts each of some boxes under a name.
 pub(crate) fn put_boxes<K: Sink>(
     name: &[u8],
     boxes: &[Kept],
-    carrier: &mut OutBuffer,
-    sink: &mut K,
-) -> Result<(), Refusal>
-    ensures { Tells K.Sink sink.old sink.new carrier.old carrier.new
-        (flat_map (kept_lines name.now) (map kept_seen boxes.now)) result }
+    latch: &mut Latch<K>,
+)
+    ensures { Goes K.Sink latch.old latch.new
+        (flat_map (kept_lines name.now) (map kept_seen boxes.now)) }
 {
     for kept in boxes {
-        put_kept(name, kept, carrier, sink)?;
+        put_kept(name, kept, latch);
     }
-    Ok(())
 }

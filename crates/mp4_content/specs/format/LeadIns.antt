@@ -70,9 +70,9 @@ begins_simply t = is_last t.head.edits || is_lead_in t.head.edits
 abbrev pub says_more : Track → Bool
 says_more t = has_samples t && not (begins_simply t)
 
--- Some track has samples, and of each that has some the edits say no more than when it begins.
+-- Of each track that has samples the edits say no more than when it begins.
 abbrev pub says_beginnings : Presentation → Bool
-says_beginnings p = list_any has_samples p.tracks && not (list_any says_more p.tracks)
+says_beginnings p = not (list_any says_more p.tracks)
 
 -- a time: so many ticks, of which so many are a second
 pub record Moment : Type 0 where

@@ -61,10 +61,11 @@ IsFirstOf scale found None = moments_in scale found ≡ []
 IsFirstOf scale found (Some b) = CanBegin b × Among (moment_of scale b) (moments_in scale found)
     × ((y : Moment) → 0 < y.scale → delay (moments_in scale found) y ≡ later y (moment_of scale b))
 
--- how much later a track begins than the first: one without samples not at all
-abbrev pub later_than : ℕ → Beginning → Option Beginning → ℕ
+-- how much later a track begins than the first, if there is one: one without samples not at all
+abbrev pub later_than : ℕ → Option Beginning → Option Beginning → ℕ
 later_than scale first None = 0
-later_than scale first (Some b) = later (moment_of scale b) (moment_of scale first)
+later_than scale None (Some b) = 0
+later_than scale (Some first) (Some b) = later (moment_of scale b) (moment_of scale first)
 
 -- how long each track waits, where edits say no more than when they begin
 abbrev pub told_waits : Presentation → Option (List ℕ)

@@ -4,7 +4,6 @@ use Rattle.std.specs.Prelude.{◌≡◌, ℕ, ◌+◌, ◌-◌, ◌^◌, min, ze
 use Rattle.byteorder.specs.Endian.{big_bytes}
 use Rattle.mp4_boxes.specs.format.Bytes.{unsigned}
 use Rattle.mp4_boxes.specs.format.Written.{header_length}
-use Rattle.mp4_present.specs.words.Carried.{BytesGoOn}
 use Rattle.mp4_plan.specs.declared.moof_rows.IndexRun.{IndexRun}
 use Rattle.mp4_plan.specs.format.Normal.{own, longest_runs}
 use Rattle.mp4_plan.specs.declared.moof_front.PieceHead.{PieceHead}
@@ -109,9 +108,8 @@ runs_left zero index values = longest_runs values
 runs_left (suc count) index values = resumed (suc count) index values
 
 -- With one index more some of the runs that were to come are written.
-abbrev pub WritesRuns : (List ℕ → Type 0) → List ℕ → List ℕ → IndexRun → IndexRun → ℕ → List ℕ
-    → Type 0
-WritesRuns Took held held_after run next index values =
-    (done : List (ℕ × ℕ)) × BytesGoOn Took held held_after (flat_map group_row done)
+abbrev pub WritesRuns : (List ℕ → Type 0) → IndexRun → IndexRun → ℕ → List ℕ → Type 0
+WritesRuns Puts run next index values =
+    (done : List (ℕ × ℕ)) × Puts (flat_map group_row done)
     × (runs_left run.count run.index (index ∷ values) ≡ done
     ++ runs_left next.count next.index values)

@@ -59,12 +59,7 @@ impl Walk {
         ensures grows { steps.old.passed ≤ steps.new.passed }
         ensures looks { steps.new.looks ≡ steps.old.looks }
     {
-        if let Some(sample) = self.take_in_hand(movie, steps) {
-            return Ok(sample);
-        }
-        if !self.load(movie, store, steps)? {
-            return Err(Refusal::StoreChanged);
-        }
+        self.refill(movie, store, steps)?;
         match self.take_in_hand(movie, steps) {
             Some(sample) => Ok(sample),
             None => Err(Refusal::StoreChanged),

@@ -4,7 +4,7 @@ ghost use Rattle.std.specs.Prelude.{◌≡◌, ◌++◌, OnOk};
 ghost use Rattle.mp4_answers.specs.format.Texts.{line_feed};
 
 use crate::shell::file_names::shown;
-use mp4_answers::commands::box_path::{Way, number_at_top, step_line, way_to};
+use mp4_answers::commands::box_path::{Way, WayBox, number_at_top, step_line, way_to};
 use mp4_answers::text::difference_lines::{say, say_counted};
 use mp4_boxes::{Fault, FourCc, Kind, Refusal, Steps};
 use mp4_present::{FaultNumbers, TrackInfo, fault_numbers, open_movie};
@@ -163,10 +163,17 @@ fn way_read<S: Store>(alloc: Global, store: &mut S, fault: &Fault) -> Result<Way
     ensures file { S.file store.new ≡ S.file store.old }
 {
     let way = way_to(alloc, store, fault.offset)?;
-    if fault.kind != Kind::ShortHeader || way.last.0 == fault.box_type || fault.offset == 0 {
+    if fault.kind != Kind::ShortHeader || way.last.kind.0 == fault.box_type || fault.offset == 0 {
         return Ok(way);
     }
     way_to(alloc, store, fault.offset - 1)
+}
+
+// Whether a way ends with the box that a fault names: a container where a header in it is cut short,
+// and else the box at the fault's offset.
+fn ends_with(last: WayBox, fault: &Fault) -> bool {
+    let is_there = fault.kind == Kind::ShortHeader || last.offset == fault.offset;
+    last.kind.0 == fault.box_type && is_there
 }
 
 // The way to the named box. Where its header can't be read, its type stands at the end.
@@ -182,7 +189,7 @@ fn whole_way<S: Store>(alloc: Global, store: &mut S, fault: &Fault) -> Result<Ve
     }
     let way = way_read(alloc, store, fault)?;
     text.extend_from_slice(way.text.as_slice())?;
-    if !text.is_empty() && way.last == named {
+    if !text.is_empty() && ends_with(way.last, fault) {
         return Ok(text);
     }
     let mut number = None;

@@ -4,7 +4,7 @@ use Rattle.mp4_present.specs.words.Carried.{waiting}
 use Rattle.mp4_present.specs.words.GoingBack.{IsMarkInHand}
 use Rattle.mp4_present.specs.words.Joined.{IsBelow}
 use Rattle.mp4_present.specs.declared.walking.Mark.{Mark}
-use Rattle.mp4_plan.proofs.FrontsPut.{front_as}
+use Rattle.mp4_present.proofs.FrontsPut.{front_as}
 use Rattle.mp4_plan.proofs.LeftRefused.{on_both, on_both_two, so_both, so_if_ok}
 use Rattle.mp4_plan.proofs.Pushes.{goes_on_as}
 use Rattle.mp4_plan.proofs.WritingSteps.{not_both, past_same}

@@ -5,7 +5,7 @@ use Rattle.mp4_tables.specs.declared.sample.SampleAt.{SampleAt}
 use Rattle.mp4_present.specs.words.Carried.{waiting}
 use Rattle.mp4_present.specs.words.Movies.{mark_of}
 use Rattle.mp4_present.specs.declared.walking.Mark.{Mark}
-use Rattle.mp4_plan.proofs.FrontsPut.{front_put}
+use Rattle.mp4_present.proofs.FrontsPut.{front_put}
 use Rattle.mp4_content.proofs.ReducedTaken.{less_length}
 use Rattle.mp4_content.proofs.WalksGone.{marked_ahead, marked_has, marked_is, some_or_none}
 use Rattle.mp4_plan.proofs.WritingSteps.{again_within, carries_rest, writes_on}

@@ -1,7 +1,7 @@
 use Rattle.std.proofs.Common.{◌≡◌, ℕ, ◌≤◌, List, ◌++◌, drop, map}
-use Rattle.std.specs.Prelude.{flat_map, slice_index, vec_len}
-use Rattle.mp4_present.specs.words.Carried.{BytesGoOn, waiting}
+use Rattle.std.specs.Prelude.{flat_map, slice_index}
 use Rattle.mp4_plan.specs.format.Normal.{longest_runs}
+use Rattle.mp4_present.specs.words.Latches.{Goes}
 use Rattle.mp4_plan.specs.words.Spelling.{group_row, runs_left}
 use Rattle.mp4_plan.specs.declared.noted_rows.Row.{Row}
 use Rattle.mp4_plan.proofs.moof_rows.carry_indexes.Given as goal
@@ -10,8 +10,6 @@ use Rattle.mp4_plan.proofs.moof_rows.carry_indexes.Given as goal
 abbrev pub invariant-loop-row : goal.invariant-loop-row
 invariant-loop-row g l =
     let index = λ (row : Row). slice_index row.groups l.place in
-    (vec_len l.carrier.buffer ≡ vec_len l.fn.carrier.buffer)
-    × (g.K.Sink.put_failures l.sink ≡ g.K.Sink.put_failures l.fn.sink)
-    × (l.run.count ≤ l.row-index)
-    × ((done : List (ℕ × ℕ)) × BytesGoOn (g.K.Sink.takes l.fn.sink l.sink) (waiting l.fn.carrier) (waiting l.carrier) (flat_map group_row done)
+    (l.run.count ≤ l.row-index)
+    × ((done : List (ℕ × ℕ)) × Goes g.K.Sink l.fn.latch l.latch (flat_map group_row done)
     × (done ++ runs_left l.run.count l.run.index (map index (drop l.row-index l.rows)) ≡ longest_runs (map index l.rows)))

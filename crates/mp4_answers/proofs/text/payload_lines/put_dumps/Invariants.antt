@@ -1,6 +1,6 @@
 use Rattle.std.proofs.Common.{ℕ, ◌≡◌, ◌+◌, ◌/◌, List, ◌++◌, length}
+use Rattle.mp4_present.specs.words.Latches.{Goes}
 use Rattle.mp4_answers.specs.format.Text.{dump_lines}
-use Rattle.mp4_answers.proofs.Told.{ToldSoFar}
 use Rattle.mp4_answers.proofs.text.payload_lines.put_dumps.Given as goal
 
 -- the lines so far are taken along
@@ -8,7 +8,7 @@ abbrev pub invariant-loop-left : goal.invariant-loop-left
 invariant-loop-left g l =
     record {
       done : List ℕ;
-      told : ToldSoFar g.K.Sink l.fn.sink l.sink l.fn.carrier l.carrier done;
+      told : Goes g.K.Sink l.fn.latch l.latch done;
       whole : dump_lines ((length l.bytes + 15) / 16) l.bytes ≡ done ++ dump_lines l.left l.rest;
     }
 
