@@ -174,8 +174,8 @@ CASES = [
         1000, Times(90000, (), ((9, 7, 2, 0), (5, -2))), SOUND),
      told(Times(90000), SOUND)),
     ('no samples', (1000, Times(90000, (), ((500, -1), (0, 7))), Times(600)),
-     (1000, Times(90000, (), ((500, -1), (0, 7))), Times(600))),
-    ('no tracks', (1000,), (1000,)),
+     told(Times(90000), Times(600))),
+    ('no tracks', (1000,), told()),
 ]
 # Edits that say more than when a track begins.
 SAYING_MORE = [
@@ -252,8 +252,8 @@ PAIRS = [
     ('one says more, in a movie of milliseconds', micro(500_000), (
         1000, PICTURES, replace(SOUND, edits=((500, -1), (0, 0, 2, 0)))),
      'movie: timescale 1000000 | 1000'),
-    ('none has samples', (1000, Times(600, (), ((5, 0),))), (1000, Times(600, (), ((6, 0),))),
-     'track 1: edit 1: segment duration 5 | 6'),
+    ('none has samples', (1000, Times(600, (), ((5, 0),))), (600, Times(600, (), ((6, 0, 2, 0),))),
+     ''),
     ('edits of a track without samples', (1000, PICTURES, Times(600, (), ((5, 0),))), (
         1000, PICTURES, Times(600, (), ((6, 0, 2, 0),))), ''),
     ('longer than an edit can last', (1, PICTURES, replace(SOUND, edits=((LONGEST, -1), (0, 0)))), (

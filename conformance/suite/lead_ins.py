@@ -45,12 +45,12 @@ def first_shown(track, movie_timescale: int) -> Fraction:
 
 
 def waits(movie) -> list[int] | None:
-    """How many microseconds each track waits; None where edits say more, or there is no sample."""
+    """How many microseconds each track waits; None where edits say more."""
     shown = [track for track in movie.tracks if track.samples]
-    if not shown or not all(begins_simply(track.edits) for track in shown):
+    if not all(begins_simply(track.edits) for track in shown):
         return None
     times = {track.id: first_shown(track, movie.timescale) for track in shown}
-    first = min(times.values())
+    first = min(times.values(), default=Fraction(0))
     # A track without samples waits for nothing.
     late = [times.get(track.id, first) - first for track in movie.tracks]
     return [min(LONGEST, it.numerator * MICROSECONDS // it.denominator) for it in late]
