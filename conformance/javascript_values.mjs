@@ -2,15 +2,15 @@
 // each call, with what is wrong behind a tab, if anything is; the last line is `end`. Behind each call the module has to have
 // given back all memory that it took.
 //
-// usage: node javascript_values.mjs PACKAGE MODULE TABLE [EVERY]
+// usage: node javascript_values.mjs PACKAGE MODULE TABLE
 //
-// TABLE lies beside the files that it names; EVERY is 1, or so many-th calls alone are tried.
+// TABLE lies beside the files that it names.
 import { createHash } from 'node:crypto';
 import { readFileSync } from 'node:fs';
 import { dirname } from 'node:path';
 import { pathToFileURL } from 'node:url';
 
-const [folder, module, table, every = '1'] = process.argv.slice(2);
+const [folder, module, table] = process.argv.slice(2);
 const live = new Set();
 let answered = () => undefined;
 
@@ -70,6 +70,7 @@ const WAYS = [
     bytes => Uint8Array.from([7, ...bytes, 8, 9]).subarray(1, bytes.length + 1),
 ];
 const CALLS = {
+    version: () => lib.version,
     show: it => it.show(), samples: (it, { track }) => it.samples(track), boxes: it => it.boxes(), fields: (it, { rows }) => it.fields(rows),
     check: it => it.check(), sum: (it, { words }) => it.sum(words), normalLength: (it, { words }) => it.normalLength(words),
     normalise: (it, { words }) => digest(it.normalise(words)), extract: (it, { track }) => digest(it.extract(track)),
@@ -116,7 +117,7 @@ function difference(got, due) {
 
 const entries = JSON.parse(readFileSync(table, 'utf8'));
 for (const [turn, entry] of entries.entries()) {
-    if (!(entry.call in CALLS) || entry.alone || turn % Number(every)) {
+    if (!(entry.call in CALLS) || entry.alone) {
         continue;
     }
     const files = entry.files.map(name => readFileSync(`${dirname(table)}/${name}`));

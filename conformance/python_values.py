@@ -1,10 +1,10 @@
 """Compares what the calls of the Python module give with a table of calls (wrapper_calls.py), field by
 field. A line for each call, with what is wrong behind a tab, if anything is; the last line is `end`.
 
-usage: python_values.py FOLDER TABLE [EVERY]
+usage: python_values.py FOLDER TABLE [CALL..]
 
-FOLDER has the module, and TABLE lies beside the files that it names; EVERY is 1, or so many-th calls
-alone are tried. What the module runs or loads is said by MP4NORM and MP4NORM_LIBRARY.
+FOLDER has the module, and TABLE lies beside the files that it names. What the module runs or loads
+is said by MP4NORM and MP4NORM_LIBRARY.
 """
 import dataclasses
 import hashlib
@@ -150,9 +150,9 @@ def difference(got, due, way=''):
 def main():
     with open(sys.argv[2], encoding='utf-8') as file:
         entries = json.load(file)
-    room, every = os.path.dirname(os.path.abspath(sys.argv[2])), int(sys.argv[3]) if sys.argv[3:] else 1
+    room, only = os.path.dirname(os.path.abspath(sys.argv[2])), sys.argv[3:] or CALLS
     for number, entry in enumerate(entries):
-        if entry['call'] not in CALLS or number % every:
+        if entry['call'] not in only:
             continue
         due = due_of(entry)
         for files in ways(entry, room, number):

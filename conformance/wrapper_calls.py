@@ -11,6 +11,7 @@ JSON, since JavaScript reads no whole numbers above 2^53 exactly, what is due:
   normalLength   a number
   check      {"status", "kind", "type", "offset", "len"}
   columns    lists by name, of which seconds are floats; and the same seconds exactly
+  version    that of the program
   of what is refused   {"fault": [kind, type, offset, which file]}, of a lacking track {"fails": ..}
 """
 from __future__ import annotations
@@ -19,6 +20,7 @@ import hashlib
 import json
 import os
 import re
+import sys
 from fractions import Fraction
 
 import trials
@@ -30,6 +32,9 @@ from suite.stored import PLAIN, bytes_of, names
 from trials import Room
 
 aligns = script('aligns')
+HERE = os.path.dirname(os.path.abspath(__file__))
+# Seconds that a wrapper has for the table.
+LIMIT = 300
 KIND = re.compile(r'refused: (\w+) in (.{4}|[0-9a-f]{8}) at (\d+)\n', re.S)
 WORDS = ('', 'times', 'edits,ends', 'packaging-1', 'media-1', 'packaging-2', 'media-2', 'flags',
          'groups', 'metadata', 'bitrates', 'origins', 'labels', 'timing', 'roles', 'ids',
@@ -39,9 +44,9 @@ FORMS = {'plain': [], 'named': ['--header'], 'json': ['--json']}
 SYNTAXES = {'lines': [], 'json': ['--json']}
 # Differences that are listed at most: fewer than there are, as many as where none is said, more.
 LIMITS = (0, 1, 3, 100, 130, 1000)
-# As many samples as have other bytes in one of two files.
-MANY = 150
-# Times in milliseconds are others than these in the track's units.
+# As many samples as have other bytes in one of two files: texts of them are longer than what is
+# first asked for.
+MANY = 700
 SCENES = b'abcdefghij'
 
 
@@ -218,6 +223,8 @@ class Table:
 
     def whole(self) -> list:
         """All entries."""
+        version = trials.printed(self.program, '--version').partition(',')[0].split()[1]
+        self.entries.append({'call': 'version', 'files': [], 'due': json.dumps(version)})
         self.by_program()
         for name in self.names:
             self.file(name)
@@ -232,6 +239,24 @@ class Table:
 
 def written(program: str, folder: str) -> str:
     """Writes files and table into a folder; the table's path."""
-    path = os.path.join(folder, 'calls.json')
     Room(folder).write('calls.json', json.dumps(Table(program, folder).whole()))
-    return path
+    return os.path.join(folder, 'calls.json')
+
+
+def in_python(folder: str, table: str, *only, program: str = '', library: str = '') -> tuple:
+    """What the module in this folder makes of the table, or of some of its calls: lines of what was
+    tried, with what is wrong behind a tab; and what was said where it didn't come to its end."""
+    environment = {**os.environ, 'MP4NORM': program, 'MP4NORM_LIBRARY': library}
+    return told_by(sys.executable, os.path.join(HERE, 'python_values.py'), folder, table, *only, env=environment)
+
+
+def in_javascript(package: str, module: str, table: str, *flags) -> tuple:
+    """The same of a package, by one of its modules."""
+    return told_by('node', *flags, '--no-warnings', os.path.join(HERE, 'javascript_values.mjs'), package,
+                   os.path.join(package, module), table)
+
+
+def told_by(*words, **how) -> tuple:
+    status, error, output = trials.run(*words, limit=LIMIT, **how)
+    *lines, last = output.decode(errors='replace').splitlines() or ['']
+    return lines, '' if (status, last) == (0, 'end') else error.decode(errors='replace')[-500:] or 'no end'
