@@ -2,7 +2,7 @@
 // each call, with what is wrong behind a tab, if anything is; the last line is `end`. Behind each call the module has to have
 // given back all memory that it took.
 //
-// usage: node javascript_values.mjs PACKAGE MODULE TABLE
+// usage: node javascript_values.mjs PACKAGE MODULE TABLE [--first-failure]
 //
 // TABLE lies beside the files that it names.
 import { createHash } from 'node:crypto';
@@ -10,7 +10,7 @@ import { readFileSync } from 'node:fs';
 import { dirname } from 'node:path';
 import { pathToFileURL } from 'node:url';
 
-const [folder, module, table] = process.argv.slice(2);
+const [folder, module, table, only] = process.argv.slice(2);
 const live = new Set();
 let answered = () => undefined;
 
@@ -124,7 +124,11 @@ for (const [turn, entry] of entries.entries()) {
     const got = spelled(told(entry, files, turn));
     const { due, text, ...asked } = entry;
     const lost = live.size - kept;
-    note(JSON.stringify(asked), difference(got, ordered(due)) || (lost ? `${lost} blocks of memory are not given back` : ''));
+    const wrong = difference(got, ordered(due)) || (lost ? `${lost} blocks of memory are not given back` : '');
+    note(JSON.stringify(asked), wrong);
+    if (wrong && only === '--first-failure') {
+        process.exit(1);
+    }
 }
 
 // Numbers that no file of this size has: a place and a length of more than 32 bits, and one of more than 53.

@@ -1,7 +1,7 @@
 """Compares what the calls of the Python module give with a table of calls (wrapper_calls.py), field by
 field. A line for each call, with what is wrong behind a tab, if anything is; the last line is `end`.
 
-usage: python_values.py FOLDER TABLE [CALL..]
+usage: python_values.py FOLDER TABLE [--first-failure] [CALL..]
 
 FOLDER has the module, and TABLE lies beside the files that it names. What the module runs or loads
 is said by MP4NORM and MP4NORM_LIBRARY.
@@ -150,7 +150,8 @@ def difference(got, due, way=''):
 def main():
     with open(sys.argv[2], encoding='utf-8') as file:
         entries = json.load(file)
-    room, only = os.path.dirname(os.path.abspath(sys.argv[2])), sys.argv[3:] or CALLS
+    room, words = os.path.dirname(os.path.abspath(sys.argv[2])), sys.argv[3:]
+    only = [word for word in words if word in CALLS] or CALLS
     for number, entry in enumerate(entries):
         if entry['call'] not in only:
             continue
@@ -163,6 +164,8 @@ def main():
             how = {key: it for key, it in entry.items() if key not in ('due', 'text', 'timescale')}
             wrong = difference(got, due)
             print(f'{how} {[type(it).__name__ for it in files]}' + (f'\t{wrong}' if wrong else ''))
+            if wrong and '--first-failure' in words:
+                return
     print('end')
 
 

@@ -226,14 +226,14 @@ class Table:
         version = trials.printed(self.program, '--version').partition(',')[0].split()[1]
         self.entries.append({'call': 'version', 'files': [], 'due': json.dumps(version)})
         self.by_program()
-        for name in self.names:
-            self.file(name)
         for files in PAIRS:
             for align in (False, True):
                 for limit in LIMITS:
                     self.compare(files, '', limit, align)
                 for words in WORDS[1:]:
                     self.compare(files, words, 100, align)
+        for name in self.names:
+            self.file(name)
         return self.entries
 
 
@@ -243,17 +243,18 @@ def written(program: str, folder: str) -> str:
     return os.path.join(folder, 'calls.json')
 
 
-def in_python(folder: str, table: str, *only, program: str = '', library: str = '') -> tuple:
-    """What the module in this folder makes of the table, or of some of its calls: lines of what was
-    tried, with what is wrong behind a tab; and what was said where it didn't come to its end."""
+def in_python(folder: str, table: str, *words, program: str = '', library: str = '') -> tuple:
+    """What the module in this folder makes of the table, or of the calls that words name: lines of
+    what was tried, with what is wrong behind a tab; and what was said where it didn't come to its
+    end."""
     environment = {**os.environ, 'MP4NORM': program, 'MP4NORM_LIBRARY': library}
-    return told_by(sys.executable, os.path.join(HERE, 'python_values.py'), folder, table, *only, env=environment)
+    return told_by(sys.executable, os.path.join(HERE, 'python_values.py'), folder, table, *words, env=environment)
 
 
-def in_javascript(package: str, module: str, table: str, *flags) -> tuple:
-    """The same of a package, by one of its modules."""
+def in_javascript(package: str, module: str, table: str, *words, flags=()) -> tuple:
+    """The same of a package, by one of its modules, which Node runs with these flags."""
     return told_by('node', *flags, '--no-warnings', os.path.join(HERE, 'javascript_values.mjs'), package,
-                   os.path.join(package, module), table)
+                   os.path.join(package, module), table, *words)
 
 
 def told_by(*words, **how) -> tuple:
