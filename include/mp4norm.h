@@ -6,7 +6,7 @@
  *   - at each pointer as many readable bytes as the length beside it says, and a pointer that is
  *     not null where the length is 0 too;
  *   - what a call writes (out, digest, answer) is writable, and apart from all else that it gets;
- *   - nobody writes the file while a call runs;
+ *   - nobody writes the file while a call runs, nor cuts one that is mapped (SIGBUS);
  *   - malloc, realloc and free are of one allocator;
  *   - 256 KB of stack; no call from a signal handler. */
 #ifndef MP4NORM_H

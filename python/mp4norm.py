@@ -22,6 +22,7 @@ In a clone of the repository both are those of its dist/.
 """
 from __future__ import annotations
 
+import contextlib
 import functools
 import json
 import os
@@ -34,8 +35,8 @@ import tempfile
 import unicodedata
 from dataclasses import dataclass, field, fields
 from fractions import Fraction
-from typing import (Any, Callable, Dict, Iterable, List, Mapping, Optional, Sequence, Tuple, Type,
-                    TypeVar, Union, cast)
+from typing import (Any, Callable, Dict, Iterable, Iterator, List, Mapping, NamedTuple, Optional,
+                    Sequence, Tuple, Type, TypeVar, Union, cast)
 
 __all__ = ["Alignment", "Between", "Box", "Comparison", "Difference", "Edit", "Error", "Failed",
            "Movie", "Refused", "Sample", "Track", "boxes", "check", "columns", "compare",
@@ -53,6 +54,8 @@ DIFFERENT, INVALID = 5, 64
 # As many bytes of a file are read into memory for the library; so many of a text are first asked
 # for.
 LONGEST, ROOM = 1 << 30, 1 << 16
+# With this an open waits for nobody who writes to a pipe.
+NOT_WAITING = getattr(os, "O_NONBLOCK", 0)
 # What the library answers (include/mp4norm.h): status, kind, type of a box, which of two files,
 # place, length. And what it is asked of two: words, listing, limit, syntax; all, as JSON, aligned.
 ANSWER, ASKED = "=4I2Q", "=4I"
@@ -69,6 +72,17 @@ FLAGS = {word: 1 << bit for bit, word in enumerate(
     ("times edits flags groups metadata bitrates ends origins labels timing roles ids timescales"
      " lead-ins").split())}
 FLAGS.update({"packaging-1": 255, "media-1": 1023, "packaging-2": 15485, "media-2": 15741})
+
+
+class State(NamedTuple):
+    """What the system tells of a file, and changes with it: which it is, its length, when it was
+    last written to, and when that or its rights were last changed."""
+
+    device: int
+    inode: int
+    length: int
+    modified: int
+    changed: int
 
 
 class Error(Exception):
@@ -306,11 +320,12 @@ def show(file: File) -> Movie:
 def samples(file: File, track: int) -> List[Sample]:
     """All samples of the track with this ID, in decoding order."""
     is_id = isinstance(track, int) and 0 < track < 1 << 32
-    found = _text("samples", file, track, 2) if is_id else None
-    if found is None:
-        found = _run(["samples", "--json", "--track", str(track)], [file])
-    told = _objects(found)
-    scales = [it.timescale for it in show(file).tracks if it.id == track] if told else [1]
+    with _one_file(file):
+        found = _text("samples", file, track, 2) if is_id else None
+        if found is None:
+            found = _run(["samples", "--json", "--track", str(track)], [file])
+        told = _objects(found)
+        scales = [it.timescale for it in show(file).tracks if it.id == track] if told else [1]
     if not scales:
         raise Failed(_name(file), "store changed")
     return [_made(Sample, {**one, "timescale": scales[0]}) for one in told]
@@ -394,37 +409,40 @@ def normalise(file: File, new: Optional[Name] = None, without: Words = (), repla
 
 
 def check(*files: Name, foreign: bool = False,
-          lossy: bool = False) -> Dict[str, Optional[Error]]:
-    """For the name of each file: None if it has a normal form, else what `normalise` would raise.
-    There may be any number of files; each is opened and judged, whatever is wrong with others."""
+          lossy: bool = False) -> Dict[Name, Optional[Error]]:
+    """For the name of each file, as it was given: None if it has a normal form, else what
+    `normalise` would raise. There may be any number of files; each is opened and judged, whatever
+    is wrong with others."""
     freed = _foreign(foreign, lossy)
     told = _told(["check", *freed], files, None if freed else 0)
-    return {name: _verdict(name, one) for name, one in told}
+    return {file: _verdict(_name(file), one) for file, one in told}
 
 
 def sum(*files: Name, without: Words = (), foreign: bool = False,
-        lossy: bool = False, track: Optional[int] = None) -> Dict[str, Union[str, Error]]:
-    """For the name of each file: the SHA-256 of its normal form, of what is left of it, in
-    hexadecimal digits; or what `normalise` would raise. Files with the same content have the same
-    sum. There may be any number of files. With `track` it is that of the track with this ID, as if
-    each file had no other."""
+        lossy: bool = False, track: Optional[int] = None) -> Dict[Name, Union[str, Error]]:
+    """For the name of each file, as it was given: the SHA-256 of its normal form, of what is left
+    of it, in hexadecimal digits; or what `normalise` would raise. Files with the same content have
+    the same sum. There may be any number of files. With `track` it is that of the track with this
+    ID, as if each file had no other."""
     left, freed, alone = _without(without), _foreign(foreign, lossy), _alone(track)
     told = _told(["sum", *left, *freed, *alone], files,
                  None if freed or alone else _flags(left))
-    return {name: _verdict(name, one) or one["sha256"] for name, one in told}
+    return {file: _verdict(_name(file), one) or one["sha256"] for file, one in told}
 
 
-def _told(words: Sequence[str], files: Iterable[Name],
-          flags: Optional[int]) -> List[Tuple[str, Dict[str, Any]]]:
-    """The names of these files, and what is told of each: by the library, and of those that it
-    doesn't look at by the program."""
+def _told(words: Sequence[str], files: Sequence[Name],
+          flags: Optional[int]) -> List[Tuple[Name, Dict[str, Any]]]:
+    """These files, and what is told of each: by the library, and of those that it doesn't look at
+    by the program."""
     names = [os.fspath(file) for file in files]
+    if not all(isinstance(name, str) for name in names):
+        raise TypeError(f"{words[0]} takes names of files, and no bytes: `normalise` takes those")
     if any("\0" in name for name in names):
         raise ValueError("embedded null byte")
     found = {name: _looked(words[0], name, flags) for name in names}
     rest = [name for name in names if found[name] is None]
     found.update(_told_by_program(words, rest) if rest else ())
-    return [(name, found[name] or {}) for name in names]
+    return [(file, found[name] or {}) for file, name in zip(files, names)]
 
 
 def _told_by_program(words: Sequence[str], names: List[str]) -> List[Tuple[str, Dict[str, Any]]]:
@@ -473,16 +491,51 @@ def _bytes_of(file: File) -> Optional[bytes]:
     name = os.fspath(file)
     try:
         os.fsencode(name).decode()
-        about = os.stat(name)
-        if not stat.S_ISREG(about.st_mode) or about.st_size > LONGEST:
-            return None
-        with open(name, "rb") as opened:
-            content = opened.read(about.st_size)
+        return _read(name)
     except UnicodeDecodeError:
         return None
     except OSError as error:
         raise Failed(name, "store", (error.strerror or "").lower()) from None
-    return content if len(content) == about.st_size else None
+
+
+def _read(name: str) -> Optional[bytes]:
+    """The bytes of a file that stays as it is while it is read, or Failed; None of what is no file,
+    which isn't opened or, where it has just come to this name, isn't waited for, and of what is too
+    long for memory."""
+    if _state(os.stat(name)) is None:
+        return None
+    with open(name, "rb", opener=lambda path, flags: os.open(path, flags | NOT_WAITING)) as opened:
+        first = _state(os.fstat(opened.fileno()))
+        if first is None or first.length > LONGEST:
+            return None
+        content = opened.read(first.length)
+        if len(content) < first.length or _state(os.fstat(opened.fileno())) != first:
+            raise Failed(name, "store changed")
+    return content
+
+
+def _state(about: os.stat_result) -> Optional[State]:
+    """What the system tells of a file; None of what is no file."""
+    if not stat.S_ISREG(about.st_mode):
+        return None
+    return State(about.st_dev, about.st_ino, about.st_size, about.st_mtime_ns, about.st_ctime_ns)
+
+
+@contextlib.contextmanager
+def _one_file(file: File) -> Iterator[None]:
+    """What is looked at twice within this is one file, as it was; else it has changed."""
+    first = _state_of(file)
+    yield
+    if _state_of(file) != first:
+        raise Failed(_name(file), "store changed")
+
+
+def _state_of(file: File) -> Optional[State]:
+    """The same of a name; None of bytes, and of what isn't there."""
+    try:
+        return None if isinstance(file, bytes) else _state(os.stat(file))
+    except OSError:
+        return None
 
 
 def _ask(library: Any, files: Sequence[File], call: str, *words: Any) -> int:
@@ -666,8 +719,34 @@ def _shown(name: str) -> str:
     return shown
 
 
+def _program_for(words: Sequence[str]) -> str:
+    """The program for these words of a command line. Where there is none, the error says what is
+    wrong with them, or why the library doesn't do."""
+    try:
+        return program()
+    except Failed as error:
+        listed = words[words.index("--without") + 1] if "--without" in words else ""
+        wrong = [word for word in listed.split(",") if word and word not in FLAGS]
+        if wrong:
+            known = f"invalid value '{wrong[0]}' for `without`: not one of {', '.join(FLAGS)}"
+            raise Failed(error.file, known) from None
+        if _library():
+            why = f"the C library doesn't do {_beyond(words)}; {error.what}"
+            raise Failed(error.file, why) from None
+        raise
+
+
+def _beyond(words: Sequence[str]) -> str:
+    """What of a command the library lacks."""
+    if "--out" in words and words[words.index("--out") + 1] != "-":
+        return "new files"
+    said = {"--foreign": "`foreign`", "--track": "a track alone"}
+    return next((it for word, it in said.items() if word in words),
+                "a file of this kind, name or length")
+
+
 def _call(words: Sequence[str], given: bytes) -> subprocess.CompletedProcess[bytes]:
-    name = program()
+    name = _program_for(words)
     try:
         return subprocess.run([name, *words], input=given, capture_output=True, check=False)
     except OSError as error:

@@ -81,7 +81,8 @@ class Case(unittest.TestCase):
         """What another Python does with the module."""
         environment = {**os.environ, 'PYTHONPATH': HERE}
         words = [sys.executable, '-B', '-c', f'import mp4norm\n{code}']
-        return subprocess.run(words, env=environment, input=given, capture_output=True, check=False)
+        return subprocess.run(words, env=environment, input=given, capture_output=True, check=False,
+                              timeout=trials.LIMIT)
 
     def refuses(self, fault, call, *words, **more):
         """The call is refused with this fault: file, kind, box, offset."""
@@ -300,19 +301,20 @@ class Answers(Case):
         self.fails('-x/new', 'write', mp4norm.normalise, 'plain.mp4', '-x/new')
 
     def test_check(self):
-        found = mp4norm.check('plain.mp4', pathlib.Path('cut.mp4'), 'none.mp4')
-        self.assertEqual(list(found), ['plain.mp4', 'cut.mp4', 'none.mp4'])
+        path = pathlib.Path('cut.mp4')
+        found = mp4norm.check('plain.mp4', path, 'none.mp4')
+        self.assertEqual(list(found), ['plain.mp4', path, 'none.mp4'])
         self.assertIsNone(found['plain.mp4'])
-        self.is_told(found['cut.mp4'], *FAULT)
+        self.is_told(found[path], *FAULT)
         self.is_told(found['none.mp4'], 'none.mp4', 'store')
         self.assertEqual(mp4norm.check(), {})
         self.assertRaises(ValueError, mp4norm.check, 'plain.mp4\0cut.mp4')
 
     def test_sum(self):
-        digits = hashlib.sha256(NORMAL).hexdigest()
-        found = mp4norm.sum('plain.mp4', pathlib.Path('cut.mp4'), 'none.mp4')
+        digits, path = hashlib.sha256(NORMAL).hexdigest(), pathlib.Path('cut.mp4')
+        found = mp4norm.sum('plain.mp4', path, 'none.mp4')
         self.assertEqual(found['plain.mp4'], digits)
-        self.is_told(found['cut.mp4'], *FAULT)
+        self.is_told(found[path], *FAULT)
         self.is_told(found['none.mp4'], 'none.mp4', 'store')
         left = hashlib.sha256(mp4norm.normalise('plain.mp4', without=['flags'])).hexdigest()
         self.assertEqual(mp4norm.sum('plain.mp4', without=['flags']), {'plain.mp4': left})
@@ -502,6 +504,30 @@ class Errors(Case):
             mp4norm.compare('plain.mp4', 'other.mp4', limit=1 << 32)
         self.assertIn('invalid value', caught.exception.what)
         self.assertRaises(TypeError, mp4norm.show, 7)
+
+    def test_no_names(self):
+        """What takes names takes no bytes, and says so."""
+        for call in (mp4norm.check, mp4norm.sum):
+            with self.assertRaises(TypeError) as caught:
+                call('plain.mp4', PLAIN)
+            self.assertIn('takes names of files, and no bytes', str(caught.exception))
+
+    def test_pipes(self):
+        """What is no file is neither read nor waited for, also where it has just come to its name."""
+        os.mkfifo('fifo')
+        code = ('import os\nplain = os.stat("plain.mp4")\nos.stat = lambda *_, **__: plain\n'
+                'try:\n    mp4norm.show("fifo")\nexcept mp4norm.Failed as it:\n    print(it.what)')
+        self.assertEqual(self.python(code).stdout, b'store\n')
+
+    def test_two_looks(self):
+        """Samples and their timescale are those of one file."""
+        def replaced(file):
+            self.write('plain.mp4', ANEW)
+            return shown(file)
+        shown = mp4norm.show
+        with mock.patch.object(mp4norm, 'show', replaced):
+            self.fails('plain.mp4', 'store changed', mp4norm.samples, 'plain.mp4', 1)
+        self.assertEqual(mp4norm.samples('plain.mp4', 1)[1].timescale, 90000)
 
     def test_copies(self):
         """An error passes from one process to another."""
@@ -765,6 +791,25 @@ class Ways(Case):
             with self.assertRaises(Failed) as caught:
                 mp4norm.compare('plain.mp4', PLAIN)
         self.assertEqual(caught.exception.file, './none')
+
+    @unittest.skipUnless(os.environ.get('MP4NORM_LIBRARY') or '--library' in sys.argv, 'no library')
+    def test_no_program(self):
+        """Where there is a library and no program, an error says what is wrong, or what wants one."""
+        os.mkfifo('fifo')
+        none = Failed('mp4norm', 'there is no such program')
+        for what, call, *words, more in (
+                ("invalid value 'tmies' for `without`", mp4norm.normalise, PLAIN, {'without': 'times,tmies'}),
+                ("invalid value 'tmies' for `without`", mp4norm.sum, 'plain.mp4', {'without': ['tmies']}),
+                ("invalid value 'tmies' for `without`", mp4norm.compare, PLAIN, PLAIN, {'without': ['tmies']}),
+                ("the C library doesn't do new files", mp4norm.normalise, 'plain.mp4', 'new', {}),
+                ("the C library doesn't do `foreign`", mp4norm.check, 'plain.mp4', {'foreign': True}),
+                ("the C library doesn't do a track alone", mp4norm.sum, 'plain.mp4', {'track': 1}),
+                ("the C library doesn't do a file of this kind", mp4norm.show, 'fifo', {})):
+            with mock.patch.object(mp4norm, 'program', side_effect=none):
+                with self.assertRaises(Failed) as caught:
+                    call(*words, **more)
+            self.assertTrue(caught.exception.what.startswith(what), caught.exception)
+            self.assertIs('there is no such program' in caught.exception.what, 'invalid' not in what)
 
     def test_clone(self):
         """In a clone of the repository program and library are those of its dist/."""
