@@ -11,6 +11,9 @@ A file of edits has lines of a word, a colon and a text; other lines are comment
     run: SCRIPT PART: PATTERN    or a part of a script, and a pattern of a run of it that must fail
     joins: WORD    edits with the same word share a build; others with a script are alone
 
+Where `{wrong}` stands in the new text of an edit of the suite, it is whether the program is to be wrong
+in this way: all such edits are in one program.
+
 Lines with the same word, one behind the other, are the lines of one text.
 """
 from __future__ import annotations
