@@ -2,9 +2,11 @@
  *
  *   CLOCK_STEP=N     each look at the clock is N milliseconds behind the one before it; with 0 the clock stands still
  *   BLOCK_FILE=NAME  what is asked for of a file whose name begins so says that it is a block device
+ *   NO_PROC=yes      what is asked for of a path below /proc isn't there
  */
 #define _GNU_SOURCE
 #include <dlfcn.h>
+#include <errno.h>
 #include <fcntl.h>
 #include <stdio.h>
 #include <stdlib.h>
@@ -45,6 +47,10 @@ static int is_named(const char *front, const char *path, int file) {
 int statx(int folder, const char *restrict path, int flags, unsigned int mask, struct statx *restrict out) {
     const char *front = getenv("BLOCK_FILE");
     REAL(statx);
+    if (getenv("NO_PROC") && path && strncmp(path, "/proc/", 6) == 0) {
+        errno = ENOENT;
+        return -1;
+    }
     int status = real(folder, path, flags, mask, out);
     if (status == 0 && front && is_named(front, path, folder)) {
         out->stx_mode = (out->stx_mode & ~S_IFMT) | S_IFBLK;
