@@ -1,15 +1,18 @@
-"""Edits of sources that each make a wrong program, for the prover (crates/*/edits/ and must-fail/)
-and for the suite (conformance/left_out_*.edit).
+"""Edits of sources that each make a wrong program, for the prover (crates/*/edits.txt and
+must-fail/) and for the suite (conformance/left_out_*.edit).
 
 A file of edits has lines of a word, a colon and a text; other lines are comments:
 
     file: PATH     what the edits below it change; that of a crate's edit begins at its crate
-    edit: NAME     begins an edit of the suite: what it takes out; a crate's file is one edit
+    edit: NAME     begins an edit; of the suite's it says what is taken out. A file without is one
     old: TEXT      stands in that file exactly once, behind the pairs before it
     new: TEXT      what stands in its place
     cases: NAME..  of the suite's edits: cases of which each must fail
     run: SCRIPT PART: PATTERN    or a part of a script, and a pattern of a run of it that must fail
     joins: WORD    edits with the same word share a build; others with a script are alone
+
+Where `{wrong}` stands in the new text of an edit of the suite, it is whether the program is to be wrong
+in this way: all such edits are in one program.
 
 Lines with the same word, one behind the other, are the lines of one text.
 """
@@ -31,6 +34,27 @@ class Edit:
     def __init__(self, path: str, name: str | None = None):
         self.path, self.name, self.pairs, self.said = path, name, [], {}
 
+    def __str__(self) -> str:
+        return f'{self.path}: {self.name}' if self.name else self.path
+
+    def of_crate(self) -> str:
+        """The crate that it is of."""
+        return self.path.split('/')[1]
+
+    def file_name(self) -> str:
+        """The name of its file in must-fail/, where `rt ci` tries it."""
+        return f'{self.name}.edit' if self.name else os.path.basename(self.path)
+
+    def spelled(self) -> str:
+        """The text of such a file."""
+        front = len(f'crates/{self.of_crate()}/')
+        lines, last = [], None
+        for path, old, new in self.pairs:
+            lines += [f'file: {path[front:]}'] if path != last else []
+            lines += [f'old: {old}', f'new: {new}']
+            last = path
+        return '\n'.join([*lines, ''])
+
     def applied(self) -> tuple:
         """The texts of the files that it changes, by their paths; the pieces that it changes, each
         a path, the text of the file before it and its place there; or why it can't be applied."""
@@ -51,8 +75,8 @@ class Edit:
 
 
 def edits_in(path: str) -> list[Edit]:
-    """The edits of a file; what stands before the first `edit:` is one without a name."""
-    front = '' if path.startswith('conformance/') else os.path.dirname(os.path.dirname(path)) + '/'
+    """The edits of a file; where nothing in it begins one, it is one without a name."""
+    front = '' if path.startswith('conformance/') else '/'.join(path.split('/')[:2]) + '/'
     edits, file, last = [Edit(path)], None, None
     for line in text(path).split('\n'):
         match = LINE.fullmatch(line)
@@ -70,8 +94,18 @@ def edits_in(path: str) -> list[Edit]:
         elif word:
             edits[-1].said.setdefault(word, []).append(value)
         last = word
-    return edits if front or edits[0].pairs else edits[1:]
+    return edits if edits[0].pairs or len(edits) == 1 else edits[1:]
+
+
+def edits_in_all(pattern: str) -> list[Edit]:
+    """The edits of the files with such names."""
+    return [edit for path in found(pattern) for edit in edits_in(path)]
+
+
+def edits_of_lists(crate: str = '*') -> list[Edit]:
+    """Those of the lists of crates, or of one crate's."""
+    return edits_in_all(f'crates/{crate}/edits.txt')
 
 
 def edits_of_suite() -> list[Edit]:
-    return [edit for path in found('conformance/left_out_*.edit') for edit in edits_in(path)]
+    return edits_in_all('conformance/left_out_*.edit')

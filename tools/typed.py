@@ -94,7 +94,7 @@ def completed(shell: str, lines: list[str]) -> list[list[str]] | None:
         for file in FILES:
             room.write(f'here/{file}', '')
         environment = {**os.environ, 'HOME': folder, 'ZDOTDIR': folder, 'XDG_CONFIG_HOME': folder, 'XDG_DATA_HOME': folder,
-                       'TERM': 'dumb', 'LC_ALL': 'C.UTF-8', 'INPUTRC': os.devnull}
+                       'XDG_RUNTIME_DIR': folder, 'TERM': 'dumb', 'LC_ALL': 'C.UTF-8', 'INPUTRC': os.devnull}
         terminal = Terminal([it.format(room=folder) for it in words], room.path('here'), environment)
         answers = []
         for line in lines:
