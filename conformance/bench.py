@@ -99,6 +99,15 @@ def stripped() -> tuple[bytes, bytes]:
     return strips.stripped(PLAIN, [strips.Name(b'hdlr')])[1:]
 
 
+def refused_copy(said: bytes) -> bytes:
+    """What `strip` says of a file that it made, and that is refused so."""
+    return b'strip: warning: NEW is refused: %s\n' % said
+
+
+# The same of plain.mp4 without `hdlr`.
+UNHANDLED = refused_copy(b'MissingBox in mdia at %d' % (PLAIN.index(b'mdia') - 4))
+
+
 def gone_process() -> int:
     """The number of a process that is no more."""
     with subprocess.Popen(['true']) as gone:

@@ -102,9 +102,9 @@ fn is_made_alike(found: &Metadata, own: &Metadata) -> bool {
 
 // Takes away a file that an interrupted run left, if no process holds it: one that runs where its
 // number is another, as in a container, has it locked.
-fn take_leftover(rt: &HostRuntime, name: &str, own: &Metadata) -> bool {
-    match fs::symlink_metadata(rt, name) {
-        Ok(found) if is_made_alike(&found, own) => {}
+fn take_leftover(rt: &HostRuntime, name: &str, own: &File) -> bool {
+    match (fs::symlink_metadata(rt, name), own.metadata()) {
+        (Ok(found), Ok(own)) if is_made_alike(&found, &own) => {}
         _ => return false,
     }
     let Ok(file) = File::open(rt, name) else {
@@ -116,7 +116,6 @@ fn take_leftover(rt: &HostRuntime, name: &str, own: &Metadata) -> bool {
 // Takes away the files that interrupted runs left beside one of this name, and says so; where more
 // words are asked for, also which stay. This run has made a file of its own.
 fn take_leftovers(rt: &HostRuntime, name: &str, own: &File, explains: bool) -> io::Result<()> {
-    let own = own.metadata()?;
     let (folder, beside) = folder_of(name);
     for entry in fs::read_dir(rt, folder)? {
         let Ok(entry) = entry else {
@@ -126,7 +125,7 @@ fn take_leftovers(rt: &HostRuntime, name: &str, own: &File, explains: bool) -> i
         if process_in(found, beside).is_some_and(|process| is_gone(rt, process)) {
             let front = name.strip_suffix(beside).unwrap_or("");
             let left = format!(in rt.alloc(); "{front}{found}")?;
-            if take_leftover(rt, left.as_str(), &own) {
+            if take_leftover(rt, left.as_str(), own) {
                 tell_name(rt, b"removed: ", left.as_str());
             } else if explains {
                 tell_name(rt, b"leftover: ", left.as_str());
