@@ -20,6 +20,7 @@ from dataclasses import dataclass
 
 import trials
 from suite import answers, built, strips
+from suite.objects import MISSING
 from suite.stored import (BOXES, COLUMNS, CUT, DATA, NORMAL, PLAIN, SAMPLES, SHOWN, bytes_of, cases,
                           lengths_of, objects)
 from trials import LIMIT, Room, Tally, other, printed
@@ -32,13 +33,14 @@ FULL = '/dev/full'
 # A name as users have them.
 ODD_NAME = 'a file of two\nlines'
 # The name of a new file beside NEW, in a folder.
-PART = re.compile(r'\.part')
+PART = re.compile(r'\.mp4norm-part')
 # What NEW may be before a run, and further words with which it may be that.
 OLD = b'as it was'
 OVER = (([], None), (['--replace'], OLD))
 STORE, WRITE, CHANGED = b'failed: store\n', b'failed: write\n', b'failed: store changed\n'
-# The verdict on what can't be opened.
-NOT_THERE = b'failed: store'
+# The verdict on what can't be opened, and on what isn't there.
+NOT_OPENED = b'failed: store'
+NOT_THERE = NOT_OPENED + MISSING
 # What ends each verdict, and the words that ask for it.
 ENDS = ((b'\n', []), (b'\0', ['--zero']))
 # What each command puts to standard output of plain.mp4.
@@ -97,6 +99,15 @@ def stripped() -> tuple[bytes, bytes]:
     return strips.stripped(PLAIN, [strips.Name(b'hdlr')])[1:]
 
 
+def refused_copy(said: bytes) -> bytes:
+    """What `strip` says of a file that it made, and that is refused so."""
+    return b'strip: warning: NEW is refused: %s\n' % said
+
+
+# The same of plain.mp4 without `hdlr`.
+UNHANDLED = refused_copy(b'MissingBox in mdia at %d' % (PLAIN.index(b'mdia') - 4))
+
+
 def gone_process() -> int:
     """The number of a process that is no more."""
     with subprocess.Popen(['true']) as gone:
@@ -119,7 +130,7 @@ def escaped(name: bytes | str) -> bytes:
 def verdict(name: bytes | str, said: bytes, end: bytes = b'\n') -> bytes:
     """A line of `check`; only where a zero byte ends it, the name stands there as it is."""
     name = escaped(name) if end == b'\n' else os.fsencode(name)
-    return name + b': ' + (said or b'accepted') + end
+    return name + b': ' + (said.removesuffix(MISSING) or b'accepted') + end
 
 
 def status_of(said: bytes) -> int:

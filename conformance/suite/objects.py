@@ -90,6 +90,8 @@ def name_string(name: bytes) -> bytes:
 # A line that refuses a file.
 REFUSED = re.compile(rb'refused: (\w+) in (.{4}|[0-9a-f]{8}) at (\d+)')
 STATUSES = {b'memory': 2, b'store': 3, b'store changed': 3, b'write': 3, b'no such track': 4}
+# Stands behind what `check` says of a file that isn't there, which objects alone tell.
+MISSING = b', missing'
 
 
 def verdict(name: bytes | str, said: bytes, end: bytes = b'\n') -> bytes:
@@ -102,8 +104,10 @@ def verdict(name: bytes | str, said: bytes, end: bytes = b'\n') -> bytes:
         kind, named, place = refused.groups()
         fault = text({'box': named.decode(), 'kind': kind.decode(), 'offset': int(place)})
         return (b'{"file":' + name + b',"refused":' + fault.encode() + b',"status":1}' + end)
-    failure = said.removeprefix(b'failed: ')
-    return b'{"failed":"%s","file":%s,"status":%d}' % (failure, name, STATUSES[failure]) + end
+    failure = said.removeprefix(b'failed: ').removesuffix(MISSING)
+    missing = b'"missing":true,' if said.endswith(MISSING) else b''
+    status = STATUSES[failure]
+    return b'{"failed":"%s","file":%s,%s"status":%d}' % (failure, name, missing, status) + end
 
 
 # ---- differences

@@ -35,6 +35,7 @@ use shell::check_files::{Manner, check_all};
 pub use shell::command_line::action;
 use shell::descriptors::take_closed;
 use shell::file_names::{shown_word, word_of};
+use shell::reports::{NotedStream, Report};
 use shell::run_command::run;
 use shell::run_compare::compare_named;
 use shell::sum_checks::{Sought, check_sums, tell_new};
@@ -48,6 +49,11 @@ use std::sync::ledger::{Blank, Ledger};
 
 /// The status for words that are not known.
 const USAGE: u8 = 64;
+
+/// What is said where an answer that is no text would go to a terminal.
+const TO_TERMINAL: &[u8] = b"\
+error: the answer is no text, and standard output is a terminal: name a file with '--out <NEW>', \
+or put the answer into a pipe\n\nFor more information, try '--help'.\n";
 
 /// What stands behind the first lines of the help.
 const MORE_HELP: &[u8] = b"\nFor more information, try '--help'.\n";
@@ -92,9 +98,9 @@ fn shown_fault(rt: &HostRuntime, words: &[String], fault: CommandFault) -> Comma
     }
 }
 
-fn put_text(rt: &HostRuntime, text: &str) -> Result<(), Refusal> {
-    let mut sink = IoSink::new(io::writer(rt));
-    sink.put(text.as_bytes())?;
+fn put_text(rt: &HostRuntime, text: &str, report: &mut Report) -> Result<(), Refusal> {
+    let out = &mut io::writer(rt);
+    IoSink::new(NotedStream { out, report }).put(text.as_bytes())?;
     Ok(())
 }
 
@@ -105,12 +111,47 @@ fn end(rt: &HostRuntime, answer: Result<(), Refusal>) -> ExitCode
     ended(&mut IoSink::new(rt.stderr()), &answer)
 }
 
+// The same, but nothing is said where whoever reads the answer has gone.
+fn end_heard(rt: &HostRuntime, answer: Result<(), Refusal>, report: &Report) -> ExitCode
+    ensures { exit_status result ≡ verdict_status answer }
+{
+    if report.is_silent() && matches!(answer, Err(Refusal::WriteFailed)) {
+        return ExitCode::from(verdict_status(&answer));
+    }
+    end(rt, answer)
+}
+
 // The status of verdicts, or what there is to say where these could not be given.
-fn end_verdicts(rt: &HostRuntime, worst: Result<u8, Refusal>) -> ExitCode {
+fn end_verdicts(rt: &HostRuntime, worst: Result<u8, Refusal>, report: &Report) -> ExitCode {
     match worst {
         Ok(status) => ExitCode::from(status),
-        Err(refusal) => end(rt, Err(refusal)),
+        Err(refusal) => end_heard(rt, Err(refusal), report),
     }
+}
+
+// Whether the answer is no text, and would go to a terminal.
+fn fills_terminal(rt: &HostRuntime, job: &Job, order: Order) -> bool {
+    let is_text = !matches!(
+        job,
+        Job::Normalise | Job::Reduce { .. } | Job::Extract { .. } | Job::Strip { .. }
+    );
+    !is_text && matches!(order.target, Target::Standard) && rt.stdout().is_terminal()
+}
+
+// Does a job, unless its answer would fill a terminal, and says what there is to say of it.
+fn do_job<L: Ledger, M: Ledger>(
+    rt: &HostRuntime,
+    job: Job,
+    order: Order,
+    steps: &mut Steps<L, M>,
+) -> ExitCode {
+    if fills_terminal(rt, &job, order) {
+        let _ = rt.stderr().write_all(TO_TERMINAL);
+        return ExitCode::from(USAGE);
+    }
+    let mut report = Report::new(order.telling);
+    let answer = run(rt, job, order, steps, &mut report);
+    end_heard(rt, answer, &report)
 }
 
 // Does what the words ask for. Steps and looks are counted in these ledgers.
@@ -125,16 +166,16 @@ fn act<L: Ledger, M: Ledger>(
 {
     let mut counted = Steps::<L, M>::new(steps, looks);
     match action {
-        Action::Run { job, order } => end(rt, run(rt, job, order, &mut counted)),
+        Action::Run { job, order } => do_job(rt, job, order, &mut counted),
         Action::Strip { names, order } => {
             let names = names.as_slice();
-            let job = Job::Strip { names };
-            end(rt, run(rt, job, order, &mut counted))
+            do_job(rt, Job::Strip { names }, order, &mut counted)
         }
-        Action::CheckSums { list, how } => end_verdicts(
-            rt,
-            check_sums(rt, list, how, &mut counted),
-        ),
+        Action::CheckSums { list, how } => {
+            let mut report = Report::new(how.telling);
+            let worst = check_sums(rt, list, how, &mut report, &mut counted);
+            end_verdicts(rt, worst, &report)
+        }
         Action::NewNames {
             list,
             files,
@@ -144,7 +185,9 @@ fn act<L: Ledger, M: Ledger>(
         } => {
             let words = files.as_slice();
             let sought = Sought { words, names, end };
-            end_verdicts(rt, tell_new(rt, list, sought, telling))
+            let mut report = Report::new(telling);
+            let worst = tell_new(rt, list, sought, &mut report);
+            end_verdicts(rt, worst, &report)
         }
         Action::Compare(comparison) => compare_named(rt, comparison, &mut counted),
         Action::Check {
@@ -157,7 +200,9 @@ fn act<L: Ledger, M: Ledger>(
         } => {
             let files = files.as_slice();
             let manner = Manner::of(files, list, finding, style, freeing, telling);
-            end_verdicts(rt, check_all(rt, files, list, manner, &mut counted))
+            let mut report = Report::new(telling);
+            let worst = check_all(rt, files, list, manner, &mut report, &mut counted);
+            end_verdicts(rt, worst, &report)
         }
     }
 }
@@ -165,7 +210,11 @@ fn act<L: Ledger, M: Ledger>(
 // Says why there is nothing to do.
 fn tell(rt: &HostRuntime, fault: CommandFault) -> ExitCode {
     match fault {
-        CommandFault::Help(text) => end(rt, put_text(rt, text.as_str())),
+        CommandFault::Help(text) => {
+            let mut report = Report::new(Telling::NOTHING);
+            let put = put_text(rt, text.as_str(), &mut report);
+            end_heard(rt, put, &report)
+        }
         CommandFault::Usage(text) | CommandFault::Shown(text) => {
             let _ = rt.stderr().write_all(text.as_str().as_bytes());
             ExitCode::from(USAGE)

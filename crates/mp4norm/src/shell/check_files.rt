@@ -2,7 +2,7 @@
 use crate::judging::{Judge, judge_all};
 use crate::running::{FoundSum, find, is_of_file, settled};
 use crate::shell::action::{Finding, Freeing, Input, Telling};
-use crate::shell::file_names::{shown, word_of};
+use crate::shell::file_names::{push_shown, shown, word_of};
 use crate::shell::foreign::{Opened, Told, lay_free};
 use crate::shell::gathered::GatheredLines;
 use crate::shell::reports::{NotedStream, Report, tell_of};
@@ -20,6 +20,7 @@ use mp4_boxes::{Refusal, Steps};
 use mp4_store::{IoSink, Sink};
 use std::alloc::{AllocError, Global};
 use std::fs::File;
+use std::io::IsTerminal;
 use std::sync::ledger::Ledger;
 
 // What is named by a word, or by a name of a list: and whether it is a file, and neither standard
@@ -78,17 +79,23 @@ impl Manner {
     }
 }
 
-/// What was found of a file; and the sum of its bytes, where it is refused and that is asked for.
+/// What was found of a file; the sum of its bytes, where it is refused and that is asked for; and
+/// whether it isn't there.
 #[derive(Drop)]
 pub(crate) struct JudgedFile {
     pub(crate) found: FoundSum,
     bytes: Option<[u8; DIGEST]>,
+    is_missing: bool,
 }
 
 impl JudgedFile {
     // Of a file of which no more is asked for.
     fn of(found: FoundSum) -> JudgedFile {
-        JudgedFile { found, bytes: None }
+        JudgedFile {
+            found,
+            bytes: None,
+            is_missing: false,
+        }
     }
 }
 
@@ -110,9 +117,9 @@ fn judged<L: Ledger, M: Ledger>(
     let mut opened = if manner.is_of_bytes() {
         Opened::plain(rt.alloc(), source)
     } else {
-        lay_free(rt, told, manner.freeing, source)
+        lay_free(rt.alloc(), told, manner.freeing, source)
     };
-    let answer = match opened.readable() {
+    let answer = match opened.readable(rt) {
         Ok(()) => find(rt.alloc(), manner.finding, &mut opened.source, steps),
         Err(refusal) => Err(refusal),
     };
@@ -126,14 +133,13 @@ fn judged<L: Ledger, M: Ledger>(
     } else {
         None
     };
-    let source = &mut opened.source;
-    explain_refusal(rt, told.name, refusal, manner.telling, source, steps);
     if matches!(refusal, Refusal::StoreFailed) {
         report.concerns_part(rt, opened.source.below())?;
     }
+    explain_refusal(rt, told.name, refusal, manner.telling, opened.source, steps);
     Ok(JudgedFile {
-        found: answer,
         bytes,
+        ..JudgedFile::of(answer)
     })
 }
 
@@ -145,11 +151,12 @@ pub(crate) fn answer_of<L: Ledger, M: Ledger>(
     steps: &mut Steps<L, M>,
 ) -> JudgedFile {
     let mut report = Report::new(manner.telling);
-    let answer = match judged(rt, input, manner, &mut report, steps) {
+    let mut answer = match judged(rt, input, manner, &mut report, steps) {
         Ok(answer) => answer,
         Err(refusal) => JudgedFile::of(Err(refusal)),
     };
     if matches!(answer.found, Err(Refusal::StoreFailed)) {
+        answer.is_missing = report.lacks_file();
         report.tell_input(rt, input.name());
     }
     answer
@@ -228,6 +235,22 @@ fn put_answer<K: Sink>(
     put_verdict(alloc, name.as_slice(), answer, style, lines.sink()?)
 }
 
+// Puts the object of a file of this name that isn't there.
+fn put_missing<K: Sink>(
+    alloc: Global,
+    name: &[u8],
+    end: u8,
+    lines: &mut GatheredLines<K>,
+) -> Result<(), Refusal> {
+    let mut line = Vec::new(alloc);
+    line.extend_from_slice(b"{\"failed\":\"store\",\"file\":")?;
+    line.extend_from_slice(name_json(alloc, name)?.as_slice())?;
+    line.extend_from_slice(b",\"missing\":true,\"status\":3}")?;
+    line.push(end)?;
+    lines.sink()?.put(line.as_slice())?;
+    Ok(())
+}
+
 /// The name of a file in a line of its sum. Where it would name standard input or a list there, it
 /// stands behind `./`.
 pub(crate) fn name_in_list(
@@ -243,21 +266,36 @@ pub(crate) fn name_in_list(
     Ok(text)
 }
 
+// The line of a sum; on a terminal with the name as people are shown it.
+fn line_of_sum(
+    rt: &HostRuntime,
+    named: GivenName,
+    digest: &[u8; DIGEST],
+    end: u8,
+) -> Result<Vec<u8>, AllocError> {
+    let name = name_in_list(rt.alloc(), named.name, named.is_file)?;
+    if end == 0 || !rt.stdout().is_terminal() {
+        return sum_line(rt.alloc(), name.as_slice(), digest, end);
+    }
+    // The digits and the spaces behind them.
+    let mut line = sum_line(rt.alloc(), &[], digest, 0)?;
+    line.pop();
+    push_shown(&mut line, name.as_slice())?;
+    line.push(end)?;
+    Ok(line)
+}
+
 // Puts the sum of a file of this name.
 fn put_sum<K: Sink>(
-    alloc: Global,
+    rt: &HostRuntime,
     named: GivenName,
     digest: &[u8; DIGEST],
     style: VerdictStyle,
     lines: &mut GatheredLines<K>,
 ) -> Result<(), Refusal> {
-    let GivenName { name, is_file } = named;
     let line = match style.syntax {
-        Syntax::Text => {
-            let name = name_in_list(alloc, name, is_file)?;
-            sum_line(alloc, name.as_slice(), digest, style.end)?
-        }
-        Syntax::Json => sum_object(alloc, name, digest, style.end)?,
+        Syntax::Text => line_of_sum(rt, named, digest, style.end)?,
+        Syntax::Json => sum_object(rt.alloc(), named.name, digest, style.end)?,
     };
     lines.add(line.as_slice())
 }
@@ -267,14 +305,17 @@ fn put_sum<K: Sink>(
 fn put_named<K: Sink>(
     rt: &HostRuntime,
     named: GivenName,
-    found: &FoundSum,
+    answer: &JudgedFile,
     manner: Manner,
     lines: &mut GatheredLines<K>,
 ) -> Result<(), Refusal> {
     let (alloc, style, name) = (rt.alloc(), manner.style, named.name);
-    match (found, manner.finding) {
-        (Ok(Some(digest)), _) => put_sum(alloc, named, digest, style, lines),
+    match (&answer.found, manner.finding) {
+        (Ok(Some(digest)), _) => put_sum(rt, named, digest, style, lines),
         (Ok(None), _) => put_answer(alloc, name, &Ok(()), style, lines),
+        (Err(_), _) if answer.is_missing && matches!(style.syntax, Syntax::Json) => {
+            put_missing(alloc, name, style.end, lines)
+        }
         (Err(refusal), Finding::Sum { .. }) if matches!(style.syntax, Syntax::Text) => {
             lines.flush()?;
             tell_of(rt, name, fault_line(refusal).as_bytes());
@@ -286,17 +327,16 @@ fn put_named<K: Sink>(
 
 // Adds the line of the sum of the bytes of a file, if there is one.
 fn hold_bytes(
-    alloc: Global,
+    rt: &HostRuntime,
     named: GivenName,
     answer: &JudgedFile,
-    style: VerdictStyle,
+    end: u8,
     held: &mut Vec<u8>,
 ) -> Result<(), AllocError> {
     let Some(digest) = &answer.bytes else {
         return Ok(());
     };
-    let name = name_in_list(alloc, named.name, named.is_file)?;
-    let line = sum_line(alloc, name.as_slice(), digest, style.end)?;
+    let line = line_of_sum(rt, named, digest, end)?;
     held.extend_from_slice(line.as_slice())
 }
 
@@ -314,9 +354,9 @@ struct FileJudge<'a, 'c, K, L: Ledger, M: Ledger> {
 impl<'a, 'c, K: Sink, L: Ledger, M: Ledger> FileJudge<'a, 'c, K, L, M> {
     // Puts what was found of a file of this name, and holds the sum of its bytes.
     fn note(&mut self, named: GivenName, answer: JudgedFile) -> Result<FoundSum, Refusal> {
-        let style = self.manner.style;
-        put_named(self.rt, named, &answer.found, self.manner, &mut self.lines)?;
-        hold_bytes(self.rt.alloc(), named, &answer, style, &mut self.held)?;
+        let end = self.manner.style.end;
+        put_named(self.rt, named, &answer, self.manner, &mut self.lines)?;
+        hold_bytes(self.rt, named, &answer, end, &mut self.held)?;
         Ok(answer.found)
     }
 
@@ -427,12 +467,12 @@ pub(crate) fn check_all<L: Ledger, M: Ledger>(
     files: &[Input],
     list: Option<Input>,
     manner: Manner,
+    report: &mut Report,
     steps: &mut Steps<L, M>,
 ) -> Result<u8, Refusal> {
-    let mut report = Report::new(manner.telling);
-    let names = read_names(rt, list, &mut report)?;
+    let names = read_names(rt, list, report)?;
     let names = names.as_slice();
-    let worst = check_each(rt, files, names, manner, &mut report, steps);
+    let worst = check_each(rt, files, names, manner, report, steps);
     if matches!(worst, Err(Refusal::WriteFailed)) {
         report.tell_output(rt, "-");
     }

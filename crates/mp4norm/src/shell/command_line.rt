@@ -35,6 +35,9 @@ const ROWS_ALONE: &str = "the argument '--rows <N>' is of use only with '--field
 
 const NO_LIST: &str = "'@' names no list of files; a file of this name is './@'";
 
+const NOTHING_DROPPED: &str = "\
+the argument '--drop <TYPES>' or '--foreign' is required: which boxes are to be free space";
+
 const LOSSY_ALONE: &str = "the argument '--lossy' is of use only with '--foreign'";
 
 const QUIET_ALONE: &str = "the argument '--quiet' is of use only with '--check <LIST>'";
@@ -256,12 +259,15 @@ fn strip_asked<'a>(alloc: Global, found: &ArgMatches<'a>) -> Result<Action<'a>, 
     if found.get_flag("foreign") && names.push(Name::Foreign).is_err() {
         return Err(CommandFault::Memory);
     }
+    if names.is_empty() {
+        return Err(usage(alloc, NOTHING_DROPPED));
+    }
     match found.get_str("file") {
-        Some(file) if !names.is_empty() => {
+        Some(file) => {
             let order = order_of(found, file);
             Ok(Action::Strip { names, order })
         }
-        _ => Err(missing(alloc)),
+        None => Err(missing(alloc)),
     }
 }
 

@@ -33,7 +33,7 @@ const BRIEF: &str = "Say no more than one line of a failure, on a terminal too";
 
 const REPLACE: &str = "\
 Replace NEW, and only once all is written: by a new file beside it, \
-NEW.part-..";
+NEW.mp4norm-part-..";
 
 const WITHOUT: &str = "\
 What to leave out, words apart by commas: times, edits, flags, groups, metadata, \
@@ -289,7 +289,7 @@ fn without_arg<'a>(alloc: Global) -> Arg<'a> {
         .action(ArgAction::Append)
 }
 
-fn drop_arg<'a>(alloc: Global) -> Result<Arg<'a>, AllocError> {
+fn drop_arg<'a>(alloc: Global) -> Arg<'a> {
     Arg::new(alloc, "drop")
         .long("drop")
         .value_name("TYPES")
@@ -298,7 +298,6 @@ fn drop_arg<'a>(alloc: Global) -> Result<Arg<'a>, AllocError> {
              uuid:be7acfcb-97a9-42e8-9c71-999491e3afac the uuid boxes that begin so",
         )
         .action(ArgAction::Set)
-        .required_unless_present("foreign")
 }
 
 fn strip_command<'a>(alloc: Global) -> Result<Command<'a>, AllocError> {
@@ -309,7 +308,7 @@ fn strip_command<'a>(alloc: Global) -> Result<Command<'a>, AllocError> {
         "Example: mp4norm strip movie.mp4 --drop uuid,minf/hdlr --out stripped.mp4",
     )?;
     let command = command
-        .arg(drop_arg(alloc)?)?
+        .arg(drop_arg(alloc))?
         .arg(flag(alloc, "foreign", FOREIGN))?
         .arg(flag(alloc, "lossy", LOSSY))?;
     with_out(command, alloc)

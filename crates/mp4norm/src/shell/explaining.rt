@@ -122,13 +122,13 @@ fn meaning_of(fault: &Fault) -> &'static str {
         Kind::BadSize => "the size is smaller than the header, or is 0 inside a container",
         Kind::Overrun => "the box ends behind its container",
         Kind::ShortBox => "the box has no room for its fields or rows",
-        Kind::BoxNotInProfile => "the profile has no such box there; strip can make it free space",
+        Kind::BoxNotInProfile => "the profile has no such box there",
         Kind::DuplicateBox => "the box is one too many",
         Kind::MissingBox => "the container lacks a box that the profile wants",
         Kind::BadVersion => "the box has a version that the profile does not have",
         Kind::BadFlags => "the box has flags that the profile does not have",
         Kind::BadValue => "a field has a value that is not allowed",
-        Kind::OutsideData => "the data is not in this file alone",
+        Kind::OutsideData => "only one data reference is taken, a url that means this file",
         Kind::CountMismatch => "the table counts other than the samples are",
         Kind::BadOrder => "rows do not rise, or do not begin at 1",
         Kind::BadDescriptionIndex => "a sample has no description",
@@ -270,29 +270,62 @@ fn push_file(text: &mut Vec<u8>, alloc: Global, name: Option<&str>) -> Result<()
     }
 }
 
-// The lines of an explanation, behind the file's name where that is given.
-fn explanation(
+/// What is found of a fault: the way to the named box, and facts beside it.
+#[derive(Drop)]
+pub(crate) struct FaultLook {
+    way: Vec<u8>,
+    facts: FaultFacts,
+}
+
+/// Looks at a fault of a file.
+pub(crate) fn look_at<S: Store, L: Ledger, M: Ledger>(
+    alloc: Global,
+    fault: &Fault,
+    store: &mut S,
+    steps: &mut Steps<L, M>,
+) -> Result<FaultLook, Refusal>
+    ensures honesty { S.is_honest store.new ≡ S.is_honest store.old }
+    ensures file { S.file store.new ≡ S.file store.old }
+{
+    let way = whole_way(alloc, store, fault)?;
+    let facts = find(alloc, store, fault, steps)?;
+    Ok(FaultLook { way, facts })
+}
+
+// Adds what a fault means, and what helps.
+fn push_meaning(
+    text: &mut Vec<u8>,
+    fault: &Fault,
+    facts: FaultFacts,
+    remedy: &[u8],
+) -> Result<(), AllocError> {
+    if !facts.is_mp4 {
+        return push_line(text, b"meaning: ", NO_MP4.as_bytes());
+    }
+    text.extend_from_slice(b"meaning: ")?;
+    push_line(text, meaning_of(fault).as_bytes(), remedy)
+}
+
+/// Three lines on a fault of a file: the way to the named box, the clause of the standard that tells
+/// of it, and what the kind means, with what helps; and a fourth one where numbers go with the
+/// fault. Before them stands the name of the file, where it is given.
+pub(crate) fn explanation(
     alloc: Global,
     name: Option<&str>,
     fault: &Fault,
-    way: &[u8],
-    found: FaultFacts,
+    look: &FaultLook,
+    remedy: &[u8],
 ) -> Result<Vec<u8>, AllocError> {
     let mut text = Vec::new(alloc);
     push_file(&mut text, alloc, name)?;
-    push_line(&mut text, b"way: ", way)?;
+    push_line(&mut text, b"way: ", look.way.as_slice())?;
     push_line(
         &mut text,
         b"clause: ISO/IEC 14496-12, ",
         clause_of(FourCc(fault.box_type)),
     )?;
-    let meaning = if found.is_mp4 {
-        meaning_of(fault)
-    } else {
-        NO_MP4
-    };
-    push_line(&mut text, b"meaning: ", meaning.as_bytes())?;
-    if let Some(numbers) = found.numbers {
+    push_meaning(&mut text, fault, look.facts, remedy)?;
+    if let Some(numbers) = look.facts.numbers {
         say_told(&mut text, numbers)?;
     }
     Ok(text)
@@ -318,29 +351,8 @@ fn brief_explanation(
     Ok(text)
 }
 
-/// Puts three lines on a fault of a file: the way to the named box, the clause of the standard that
-/// tells of it, and what the kind means; and a fourth one where numbers go with the fault. Before
-/// them stands the name of the file, where it is given.
-pub(crate) fn explain<S: Store, K: Sink, L: Ledger, M: Ledger>(
-    alloc: Global,
-    name: Option<&str>,
-    fault: &Fault,
-    store: &mut S,
-    sink: &mut K,
-    steps: &mut Steps<L, M>,
-) -> Result<(), Refusal>
-    ensures honesty { S.is_honest store.new ≡ S.is_honest store.old }
-    ensures file { S.file store.new ≡ S.file store.old }
-{
-    let way = whole_way(alloc, store, fault)?;
-    let found = find(alloc, store, fault, steps)?;
-    let text = explanation(alloc, name, fault, way.as_slice(), found)?;
-    sink.put(text.as_slice())?;
-    Ok(())
-}
-
-/// Puts of these lines only the numbers, and the meaning where the file doesn't begin like an MP4
-/// file; nothing where there is neither.
+/// Puts of the lines on a fault only the numbers, and the meaning where the file doesn't begin like
+/// an MP4 file; nothing where there is neither.
 pub(crate) fn explain_briefly<S: Store, K: Sink, L: Ledger, M: Ledger>(
     alloc: Global,
     name: Option<&str>,

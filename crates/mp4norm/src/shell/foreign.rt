@@ -16,17 +16,31 @@ use std::io::Write;
 /// What is said where nothing is put since something would be lost, with more words.
 const LOSSY: &[u8] = b"strip: with --lossy it is put all the same\n";
 
+// What would be lost, behind the name of the file, where that is given; with more words, how it is
+// put all the same.
+fn losses_text(
+    alloc: Global,
+    name: Option<&str>,
+    found: &FreedBoxes,
+    telling: Telling,
+) -> Result<Vec<u8>, AllocError> {
+    let mut text = Vec::new(alloc);
+    push_file(&mut text, name)?;
+    text.extend_from_slice(losses(alloc, found)?.as_slice())?;
+    if telling.explain {
+        text.extend_from_slice(LOSSY)?;
+    }
+    Ok(text)
+}
+
 /// Says what would be lost; with more words, how it is put all the same.
 pub(crate) fn tell_losses(
     rt: &HostRuntime,
     found: &FreedBoxes,
     telling: Telling,
 ) -> Result<(), AllocError> {
-    let mut errors = rt.stderr();
-    let _ = errors.write_all(losses(rt.alloc(), found)?.as_slice());
-    if telling.explain {
-        let _ = errors.write_all(LOSSY);
-    }
+    let text = losses_text(rt.alloc(), None, found, telling)?;
+    let _ = rt.stderr().write_all(text.as_slice());
     Ok(())
 }
 
@@ -59,19 +73,6 @@ fn push_file(text: &mut Vec<u8>, name: Option<&str>) -> Result<(), AllocError> {
     Ok(())
 }
 
-// Says what would be lost, behind the name of the file, where that is given.
-fn tell_refused(
-    rt: &HostRuntime,
-    name: Option<&str>,
-    found: &FreedBoxes,
-    telling: Telling,
-) -> Result<(), AllocError> {
-    let mut line = Vec::new(rt.alloc());
-    push_file(&mut line, name)?;
-    let _ = rt.stderr().write_all(line.as_slice());
-    tell_losses(rt, found, telling)
-}
-
 /// How boxes of what is read are to be told of: behind which name, and whether at all.
 #[derive(Clone, Copy)]
 pub(crate) struct Told<'a> {
@@ -80,31 +81,27 @@ pub(crate) struct Told<'a> {
     pub(crate) telling: Telling,
 }
 
-// What is to be said of boxes that are free space once there is an answer. Where something is lost
-// that may not be, says what it is, and refuses the file.
-fn text_of(rt: &HostRuntime, freed: Freed, told: Told) -> Result<Vec<u8>, Refusal> {
-    let alloc = rt.alloc();
+// What is to be said of boxes that are free space: which these are, or what would be lost with them
+// and may not be; then the file is refused.
+fn said_of(alloc: Global, freed: Freed, told: Told) -> Result<(Vec<u8>, Option<Refusal>), Refusal> {
     let Some(WithoutForeign { found, refusal }) = freed? else {
-        return Ok(Vec::new(alloc));
+        return Ok((Vec::new(alloc), None));
     };
-    match refusal {
-        Some(refusal) => {
-            if told.is_told {
-                tell_refused(rt, told.name, &found, told.telling)?;
-            }
-            Err(refusal)
-        }
-        None if told.is_told => Ok(freed_text(alloc, told.name, &found)?),
-        None => Ok(Vec::new(alloc)),
-    }
+    let said = match refusal {
+        _ if !told.is_told => Vec::new(alloc),
+        Some(_) => losses_text(alloc, told.name, &found, told.telling)?,
+        None => freed_text(alloc, told.name, &found)?,
+    };
+    Ok((said, refusal))
 }
 
-/// What is read, opened, with boxes that are free space laid over it; and what is to be said of
-/// these once there is an answer, or why it isn't answered.
+/// What is read, opened, with boxes that are free space laid over it; why it isn't answered of, if
+/// it isn't; and what is to be said of these boxes then, or once there is an answer.
 #[derive(Drop)]
 pub(crate) struct Opened<'a> {
     pub(crate) source: LaidSource<'a>,
-    pub(crate) freed: Result<Vec<u8>, Refusal>,
+    refusal: Option<Refusal>,
+    said: Vec<u8>,
 }
 
 impl<'a> Opened<'a> {
@@ -112,42 +109,60 @@ impl<'a> Opened<'a> {
     pub(crate) fn plain(alloc: Global, source: Source<'a>) -> Opened<'a> {
         Opened {
             source: LaidStore::plain(alloc, source),
-            freed: Ok(Vec::new(alloc)),
+            refusal: None,
+            said: Vec::new(alloc),
         }
     }
 
-    /// Whether it can be answered of; else why not.
-    pub(crate) fn readable(&self) -> Result<(), Refusal> {
-        match &self.freed {
-            Ok(_) => Ok(()),
-            Err(refusal) => Err(*refusal),
+    /// Whether it can be answered of.
+    pub(crate) fn is_readable(&self) -> bool {
+        self.refusal.is_none()
+    }
+
+    /// Whether it can be answered of; else why not, and what would be lost is said.
+    pub(crate) fn readable(&self, rt: &HostRuntime) -> Result<(), Refusal> {
+        match self.refusal {
+            None => Ok(()),
+            Some(refusal) => {
+                self.tell(rt);
+                Err(refusal)
+            }
         }
     }
 
-    /// Says which boxes were read as free space.
+    /// Says which boxes were read as free space, or what would be lost with them.
     pub(crate) fn tell(&self, rt: &HostRuntime) {
-        if let Ok(freed) = &self.freed {
-            let _ = rt.stderr().write_all(freed.as_slice());
-        }
+        let _ = rt.stderr().write_all(self.said.as_slice());
     }
 }
 
 /// Goes over the parts of what was opened, each of which has to end with a box. Boxes that the
-/// profile refuses are read as free space from now on, where that is asked for. Where something is
-/// lost that may not be, says what it is.
+/// profile refuses are read as free space from now on, where that is asked for.
 pub(crate) fn lay_free<'a>(
-    rt: &HostRuntime,
+    alloc: Global,
     told: Told,
     freeing: Freeing,
     source: Source<'a>,
 ) -> Opened<'a> {
     let mut source = source;
     if let Err(refusal) = source.check_parts() {
-        let source = LaidStore::plain(rt.alloc(), source);
-        let freed = settled(&source, Err(refusal));
-        return Opened { source, freed };
+        let source = LaidStore::plain(alloc, source);
+        let refusal = settled(&source, Err::<(), Refusal>(refusal)).err();
+        let said = Vec::new(alloc);
+        return Opened {
+            source,
+            refusal,
+            said,
+        };
     }
-    let (source, freed) = read_as_asked(rt.alloc(), freeing, source);
-    let freed = text_of(rt, freed, told);
-    Opened { source, freed }
+    let (source, freed) = read_as_asked(alloc, freeing, source);
+    let (said, refusal) = match said_of(alloc, freed, told) {
+        Ok(found) => found,
+        Err(refusal) => (Vec::new(alloc), Some(refusal)),
+    };
+    Opened {
+        source,
+        refusal,
+        said,
+    }
 }

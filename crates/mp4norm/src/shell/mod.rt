@@ -23,6 +23,7 @@ pub mod part_files;
 pub mod playlists;
 pub mod progress;
 pub mod references;
+pub mod remedies;
 pub mod reports;
 pub mod run_command;
 pub mod run_compare;

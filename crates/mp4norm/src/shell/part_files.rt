@@ -12,8 +12,8 @@ use std::{fs, io, process};
 /// So many names are tried for a new file.
 const MOST_NAMES: u32 = 1000;
 
-/// What stands behind the name of the other file.
-const MARK: &str = ".part-";
+/// What stands behind the name of the other file: no other program makes such names.
+const MARK: &str = ".mp4norm-part-";
 
 /// The rights of a new file while it is written: its owner's alone.
 const OWNERS: u32 = 0o600;
@@ -26,6 +26,9 @@ const TAKEN: &str = "another file has taken the place of the new one";
 
 /// All bits that say who may read, write and run a file.
 const RIGHTS: u32 = 0o777;
+
+/// These, and those by which it runs as another user.
+const ALL_RIGHTS: u32 = 0o7777;
 
 /// The rights that are taken away where the mask isn't known.
 const USUAL_MASK: u32 = 0o022;
@@ -40,9 +43,9 @@ pub(crate) struct PartFile {
 // A name with the number of the process behind it.
 fn name_of_process(alloc: Global, name: &str, process: u32) -> Result<String, AllocError>
     ensures { IfOk result (λ text. string_bytes text
-        ≡ name.now ++ codes ".part-" ++ decimal process) }
+        ≡ name.now ++ codes ".mp4norm-part-" ++ decimal process) }
 {
-    format!(in alloc; "{name}.part-{process}")
+    format!(in alloc; "{name}.mp4norm-part-{process}")
 }
 
 // The name of a new file beside another one: behind that of the process stands a count.
@@ -62,12 +65,21 @@ fn folder_of(name: &str) -> (&str, &str) {
     }
 }
 
-// The process in the name of a new file beside one of this name, if it is such a name.
+// A number as it stands in the name of a new file: digits, and no zero before others.
+fn number_of(digits: &str) -> Option<u32> {
+    if digits.starts_with('+') || (digits.starts_with('0') && digits != "0") {
+        return None;
+    }
+    digits.parse().ok()
+}
+
+// The process in the name of a new file beside one of this name, if a run can have made that name.
 fn process_in(found: &str, beside: &str) -> Option<u32> {
     let rest = found.strip_prefix(beside)?.strip_prefix(MARK)?;
     let (process, number) = rest.split_once('-')?;
-    let _number: u32 = number.parse().ok()?;
-    process.parse().ok()
+    let number = number_of(number)?;
+    let process = number_of(process)?;
+    (process > 0 && number < MOST_NAMES).then_some(process)
 }
 
 // Whether the system says that no process has this number.
@@ -81,11 +93,18 @@ fn is_gone(rt: &HostRuntime, process: u32) -> bool {
     }
 }
 
+// Whether a file may be of an earlier run: a regular one with one name, and with the owner and the
+// rights of the one that this run made.
+fn is_made_alike(found: &Metadata, own: &Metadata) -> bool {
+    let has_rights = found.mode() & ALL_RIGHTS == own.mode() & ALL_RIGHTS;
+    found.is_file() && found.nlink() == 1 && found.uid() == own.uid() && has_rights
+}
+
 // Takes away a file that an interrupted run left, if no process holds it: one that runs where its
 // number is another, as in a container, has it locked.
-fn take_leftover(rt: &HostRuntime, name: &str) -> bool {
-    match fs::symlink_metadata(rt, name) {
-        Ok(metadata) if metadata.is_file() => {}
+fn take_leftover(rt: &HostRuntime, name: &str, own: &File) -> bool {
+    match (fs::symlink_metadata(rt, name), own.metadata()) {
+        (Ok(found), Ok(own)) if is_made_alike(&found, &own) => {}
         _ => return false,
     }
     let Ok(file) = File::open(rt, name) else {
@@ -94,9 +113,9 @@ fn take_leftover(rt: &HostRuntime, name: &str) -> bool {
     file.try_lock().is_ok() && fs::remove_file(rt, name).is_ok()
 }
 
-// Takes away the files that interrupted runs left beside one of this name, and says so where that
-// is asked for.
-fn take_leftovers(rt: &HostRuntime, name: &str, explains: bool) -> io::Result<()> {
+// Takes away the files that interrupted runs left beside one of this name, and says so; where more
+// words are asked for, also which stay. This run has made a file of its own.
+fn take_leftovers(rt: &HostRuntime, name: &str, own: &File, explains: bool) -> io::Result<()> {
     let (folder, beside) = folder_of(name);
     for entry in fs::read_dir(rt, folder)? {
         let Ok(entry) = entry else {
@@ -106,14 +125,10 @@ fn take_leftovers(rt: &HostRuntime, name: &str, explains: bool) -> io::Result<()
         if process_in(found, beside).is_some_and(|process| is_gone(rt, process)) {
             let front = name.strip_suffix(beside).unwrap_or("");
             let left = format!(in rt.alloc(); "{front}{found}")?;
-            let is_taken = take_leftover(rt, left.as_str());
-            if explains {
-                let label: &[u8] = if is_taken {
-                    b"removed: "
-                } else {
-                    b"leftover: "
-                };
-                tell_name(rt, label, left.as_str());
+            if take_leftover(rt, left.as_str(), own) {
+                tell_name(rt, b"removed: ", left.as_str());
+            } else if explains {
+                tell_name(rt, b"leftover: ", left.as_str());
             }
         }
     }
@@ -137,7 +152,13 @@ impl PartFile {
         beside: &str,
         report: &mut Report,
     ) -> Result<PartFile, Refusal> {
-        let _ = take_leftovers(rt, beside, report.explains());
+        let part = PartFile::create(rt, beside, report)?;
+        let _ = take_leftovers(rt, beside, &part.file, report.explains());
+        Ok(part)
+    }
+
+    // Makes a file beside another one, and locks it.
+    fn create(rt: &HostRuntime, beside: &str, report: &mut Report) -> Result<PartFile, Refusal> {
         let front = name_of_process(rt.alloc(), beside, process::id(rt.process()))?;
         for number in 0..MOST_NAMES {
             let name = part_name(rt.alloc(), front.as_str(), number)?;

@@ -11,6 +11,18 @@ const FOLDER: &str = "playlist://here/folder/";
 /// What is wrong with a reference that the URL Standard doesn't take.
 const ODD: &str = "the URI can't be read";
 
+// A reference without what the URL Standard (4.4) takes away before it reads it: control characters
+// and spaces at its ends, then tabs and line ends.
+fn cleaned(alloc: Global, text: &str) -> Result<String, AllocError> {
+    let mut rest = String::new(alloc);
+    for character in text.trim_matches(|end: char| end <= ' ').chars() {
+        if !matches!(character, '\t' | '\n' | '\r') {
+            rest.push(character)?;
+        }
+    }
+    Ok(rest)
+}
+
 // Whether a percent sign stands before other than two hexadecimal digits (RFC 3986, 2.1).
 fn has_odd_percent(text: &[u8]) -> bool {
     for at in 0..text.len() {
@@ -93,6 +105,8 @@ pub(crate) fn referred_name(
     let Ok(text) = str::from_utf8(reference) else {
         return Ok(Err("the URI is not UTF-8"));
     };
+    let text = cleaned(alloc, text)?;
+    let text = text.as_str();
     if let Some(odd) = odd_of_text(text) {
         return Ok(Err(odd));
     }

@@ -34,9 +34,11 @@ fn text_of(kind: ErrorKind) -> &'static str {
     }
 }
 
-// Why something failed: what the system says of it, or that the answer is longer than it may be.
+// Why something failed: the system's error, this program's own reason, or that the answer is longer
+// than it may be.
 #[derive(Clone, Copy)]
 enum Cause {
+    System(ErrorKind),
     Said(&'static str),
     TooLong(u64),
 }
@@ -83,7 +85,7 @@ impl<'a> Report<'a> {
     /// A put failed, with this error of the system where it gave one.
     pub(crate) fn fails(&mut self, error: Option<ErrorKind>) {
         if let Some(kind) = error {
-            self.cause = Some(Cause::Said(text_of(kind)));
+            self.cause = Some(Cause::System(kind));
         }
     }
 
@@ -105,7 +107,7 @@ impl<'a> Report<'a> {
             Ok(value) => Ok(value),
             Err(error) if error.kind() == ErrorKind::OutOfMemory => Err(Refusal::Memory),
             Err(error) => {
-                self.cause = Some(Cause::Said(text_of(error.kind())));
+                self.cause = Some(Cause::System(error.kind()));
                 Err(failed)
             }
         }
@@ -137,6 +139,18 @@ impl<'a> Report<'a> {
     /// Whether a cause is known.
     pub(crate) fn has_cause(&self) -> bool {
         self.cause.is_some()
+    }
+
+    /// Whether it failed since there is no such file.
+    pub(crate) fn lacks_file(&self) -> bool {
+        matches!(self.cause, Some(Cause::System(ErrorKind::NotFound)))
+    }
+
+    /// Whether nothing is said of a failed write: whoever reads the answer has gone, and more words
+    /// are not asked for.
+    pub(crate) fn is_silent(&self) -> bool {
+        let has_gone = matches!(self.cause, Some(Cause::System(ErrorKind::BrokenPipe)));
+        has_gone && !self.telling.explain
     }
 
     /// A failure with a cause of its own.
@@ -197,7 +211,7 @@ impl<'a> Report<'a> {
     // Says which file there is trouble with, and why; `not_text` where it can't be opened by its
     // name, `else_cause` where the system gave no cause.
     fn tell(&self, rt: &HostRuntime, name: &str, not_text: &str, else_cause: &str) {
-        if !self.tells_causes(rt) {
+        if !self.tells_causes(rt) || self.is_silent() {
             return;
         }
         let (name, not_text) = match &self.concern {
@@ -208,6 +222,7 @@ impl<'a> Report<'a> {
         match self.cause {
             Some(Cause::TooLong(most)) => tell_too_long(rt, most),
             _ if !is_text(name) => tell_name(rt, b"cause: ", not_text),
+            Some(Cause::System(kind)) => tell_name(rt, b"cause: ", text_of(kind)),
             Some(Cause::Said(cause)) => tell_name(rt, b"cause: ", cause),
             None => tell_name(rt, b"cause: ", else_cause),
         }
@@ -284,7 +299,7 @@ impl<'a, 'r, R: Read> Read for NotedStream<'a, 'r, R> {
     fn read(&mut self, piece: &mut [u8]) -> io::Result<usize> {
         let read = self.out.read(piece);
         if let Err(error) = &read {
-            self.report.cause = Some(Cause::Said(text_of(error.kind())));
+            self.report.fails(Some(error.kind()));
         }
         read
     }
@@ -297,7 +312,7 @@ impl<'a, 'r, W: Write> Write for NotedStream<'a, 'r, W> {
     fn write(&mut self, piece: &[u8]) -> io::Result<usize> {
         let written = self.out.write(piece);
         if let Err(error) = &written {
-            self.report.cause = Some(Cause::Said(text_of(error.kind())));
+            self.report.fails(Some(error.kind()));
         }
         written
     }

@@ -1,21 +1,27 @@
 //! A command from what is read to where its answer goes.
 use crate::running::{run_job, settled};
-use crate::shell::action::{Freeing, Order, Telling};
-use crate::shell::explaining::{explain, explain_briefly, name_tracks};
+use crate::shell::action::{Freeing, Input, Order, Target, Telling};
+use crate::shell::explaining::{explain_briefly, explanation, look_at, name_tracks};
 use crate::shell::foreign::{Opened, Told, lay_free, tell_losses};
 use crate::shell::output::{Out, Outgoing};
+use crate::shell::remedies::remedy_of;
 use crate::shell::reports::{Report, tells_more};
 use crate::shell::sources::{LaidSource, open, open_by_headers};
 use mp4_answers::box_names::Name;
+use mp4_answers::commands::check::check_counted;
 use mp4_answers::commands::freed_boxes::FreedBoxes;
 use mp4_answers::commands::strip::count_named;
 use mp4_answers::commands::strip_lines::{count_lines, find_told, loss_refusal, warnings};
 use mp4_answers::jobs::Job;
-use mp4_boxes::{Refusal, Steps};
+use mp4_answers::text::fault_text::fault_line;
+use mp4_boxes::{Fault, Kind, Refusal, Steps};
 use mp4_store::{IoSink, Sink};
 use std::alloc::Global;
 use std::io::Write;
 use std::sync::ledger::Ledger;
+
+/// What stands before the refusal of a copy.
+const COPY: &[u8] = b"strip: warning: NEW is ";
 
 // Does the job, to where its answer goes.
 fn write_to<'a, L: Ledger, M: Ledger>(
@@ -57,6 +63,27 @@ fn look_at_boxes(
     Ok((counts, found))
 }
 
+// Says why the new file is refused, if it is. What was put to standard output isn't read again.
+fn tell_of_copy<L: Ledger, M: Ledger>(
+    rt: &HostRuntime,
+    target: Target,
+    steps: &mut Steps<L, M>,
+) -> Result<(), Refusal> {
+    let (Target::New { name } | Target::Replaced { name }) = target else {
+        return Ok(());
+    };
+    let mut unsaid = Report::new(Telling::NOTHING);
+    let mut copy = open(rt, Input::File { name }, &mut unsaid)?;
+    if let Err(Refusal::Fault(fault)) = check_counted(rt.alloc(), &mut copy, steps) {
+        let mut text = Vec::new(rt.alloc());
+        text.extend_from_slice(COPY)?;
+        text.extend_from_slice(fault_line(&Refusal::Fault(fault)).as_bytes())?;
+        text.push(b'\n')?;
+        let _ = rt.stderr().write_all(text.as_slice());
+    }
+    Ok(())
+}
+
 // Copies a file without the boxes of some names, and says which these are. Where something is lost
 // with those that the profile refuses, nothing is put, but where that is allowed.
 fn strip_and_tell<'a, L: Ledger, M: Ledger>(
@@ -81,6 +108,8 @@ fn strip_and_tell<'a, L: Ledger, M: Ledger>(
     report.end();
     let mut errors = rt.stderr();
     let _ = errors.write_all(warnings.as_slice());
+    // The copy is made: where it can't be judged, that changes nothing.
+    let _ = tell_of_copy(rt, order.target, steps);
     let _ = errors.write_all(lines.as_slice());
     Ok(())
 }
@@ -104,7 +133,7 @@ fn opened_for<'a>(
         is_told: true,
         telling: order.telling,
     };
-    Ok(lay_free(rt, told, freeing, source))
+    Ok(lay_free(rt.alloc(), told, freeing, source))
 }
 
 // Opens what is read, and does the job. A fault is explained where that is asked for.
@@ -116,7 +145,7 @@ fn open_and_answer<'a, L: Ledger, M: Ledger>(
     report: &mut Report<'a>,
 ) -> Result<(), Refusal> {
     let mut opened = opened_for(rt, &job, order, report)?;
-    let answer = match (opened.readable(), job) {
+    let answer = match (opened.readable(rt), job) {
         (Err(refusal), _) => Err(refusal),
         (Ok(()), Job::Strip { names }) => {
             strip_and_tell(rt, names, &mut opened.source, order, steps, report)
@@ -128,12 +157,37 @@ fn open_and_answer<'a, L: Ledger, M: Ledger>(
         opened.tell(rt);
         return answer;
     };
-    let source = &mut opened.source;
-    explain_refusal(rt, None, refusal, order.telling, source, steps);
     if matches!(refusal, Refusal::StoreFailed) {
         report.concerns_part(rt, opened.source.below())?;
     }
+    explain_refusal(rt, None, refusal, order.telling, opened.source, steps);
     answer
+}
+
+// Puts what there is to say of a fault in full; of a file that was put together, also in which part
+// it lies.
+fn explain<K: Sink, L: Ledger, M: Ledger>(
+    alloc: Global,
+    name: Option<&str>,
+    fault: &Fault,
+    source: LaidSource,
+    errors: &mut K,
+    steps: &mut Steps<L, M>,
+) -> Result<(), Refusal> {
+    let mut source = source;
+    let part = source.below().part_text(alloc, fault.offset)?;
+    let look = look_at(alloc, fault, &mut source, steps)?;
+    let remedy = if matches!(fault.kind, Kind::BoxNotInProfile) {
+        remedy_of(alloc, source, steps)?
+    } else {
+        Vec::new(alloc)
+    };
+    let text = explanation(alloc, name, fault, &look, remedy.as_slice())?;
+    errors.put(text.as_slice())?;
+    if let Some(part) = part {
+        errors.put(part.as_slice())?;
+    }
+    Ok(())
 }
 
 /// Explains on standard error why a file is refused, or which tracks there are where one is asked
@@ -144,25 +198,22 @@ pub(crate) fn explain_refusal<L: Ledger, M: Ledger>(
     name: Option<&str>,
     refusal: &Refusal,
     telling: Telling,
-    source: &mut LaidSource,
+    source: LaidSource,
     steps: &mut Steps<L, M>,
 ) {
     if !tells_more(rt, telling) {
         return;
     }
-    let alloc = rt.alloc();
+    let (alloc, mut source) = (rt.alloc(), source);
     let mut errors = IoSink::new(rt.stderr());
     let _ = match refusal {
         Refusal::Fault(fault) if telling.explain => {
-            let part = source.below().part_text(alloc, fault.offset);
-            let said = explain(alloc, name, fault, source, &mut errors, steps);
-            if let Ok(Some(part)) = part {
-                let _ = errors.put(part.as_slice());
-            }
-            said
+            explain(alloc, name, fault, source, &mut errors, steps)
         }
-        Refusal::Fault(fault) => explain_briefly(alloc, name, fault, source, &mut errors, steps),
-        Refusal::NoSuchTrack => name_tracks(alloc, name, source, &mut errors, steps),
+        Refusal::Fault(fault) => {
+            explain_briefly(alloc, name, fault, &mut source, &mut errors, steps)
+        }
+        Refusal::NoSuchTrack => name_tracks(alloc, name, &mut source, &mut errors, steps),
         _ => Ok(()),
     };
 }
@@ -175,9 +226,9 @@ pub(crate) fn run<'a, L: Ledger, M: Ledger>(
     job: Job,
     order: Order<'a>,
     steps: &mut Steps<L, M>,
+    report: &mut Report<'a>,
 ) -> Result<(), Refusal> {
-    let mut report = Report::new(order.telling);
-    let answer = open_and_answer(rt, job, order, steps, &mut report);
+    let answer = open_and_answer(rt, job, order, steps, report);
     match answer {
         Err(Refusal::StoreFailed) => report.tell_input(rt, order.input.name()),
         Err(Refusal::WriteFailed) => report.tell_output(rt, order.target.name()),

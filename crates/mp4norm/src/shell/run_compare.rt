@@ -9,7 +9,7 @@ use crate::shell::sources::{LaidSource, Source, open};
 use mp4_answers::commands::compare::{Asked, Failure, LineForm, Listing, Side, compare_files};
 use mp4_answers::text::fault_text::fault_line;
 use mp4_boxes::{Refusal, Steps};
-use mp4_store::IoSink;
+use mp4_store::{IoSink, MemSink, MemStore};
 use std::alloc::{AllocError, Global};
 use std::io;
 use std::io::Write;
@@ -49,7 +49,7 @@ fn open_side<'a>(
     on_side(opened, side)
 }
 
-// What is read of a side. It is said which of its boxes are read as free space.
+// What is read of a side, and what is to be said of boxes that are read as free space.
 fn as_asked<'a>(
     rt: &HostRuntime,
     asked: ComparedInputs,
@@ -61,7 +61,7 @@ fn as_asked<'a>(
         is_told: true,
         telling: asked.telling,
     };
-    lay_free(rt, told, asked.freeing, source)
+    lay_free(rt.alloc(), told, asked.freeing, source)
 }
 
 // Says why reading or writing failed, once both files are open.
@@ -125,6 +125,22 @@ impl<'a, 'r, W: Write> Write for ToldStream<'a, 'r, W> {
     }
 }
 
+// Judges the first file where the second can't be compared: as beside a file of no bytes, which is
+// refused behind it.
+fn judge_first<L: Ledger, M: Ledger>(
+    alloc: Global,
+    looks: Asked,
+    first: &mut LaidSource,
+    steps: &mut Steps<L, M>,
+) -> Result<(), Failure> {
+    let nothing = &mut MemStore::new(&[]);
+    let sink = &mut MemSink::new(alloc);
+    match compare_files(alloc, first, nothing, looks, sink, steps) {
+        Err(failure) if matches!(failure.side, Side::First) => Err(failure),
+        _ => Ok(()),
+    }
+}
+
 // Compares two opened files.
 fn compared<L: Ledger, M: Ledger>(
     rt: &HostRuntime,
@@ -134,14 +150,17 @@ fn compared<L: Ledger, M: Ledger>(
     report: &mut Report,
     steps: &mut Steps<L, M>,
 ) -> Result<bool, Failure> {
-    on_side(first.readable(), Side::First)?;
-    on_side(second.readable(), Side::Second)?;
+    on_side(first.readable(rt), Side::First)?;
     let looks = Asked {
         first: asked.first,
         second: asked.second,
         leaving: asked.leaving,
         listing: asked.listing,
     };
+    if !second.is_readable() {
+        judge_first(rt.alloc(), looks, &mut first.source, steps)?;
+    }
+    on_side(second.readable(rt), Side::Second)?;
     let out = &mut rt.stdout();
     let mut sink = IoSink::new(ToldStream {
         out: NotedStream { out, report },
@@ -188,29 +207,30 @@ fn hint(rt: &HostRuntime, asked: ComparedInputs, answer: &Result<bool, Failure>,
 fn answer<L: Ledger, M: Ledger>(
     rt: &HostRuntime,
     asked: ComparedInputs,
+    report: &mut Report,
     steps: &mut Steps<L, M>,
 ) -> Result<bool, Failure> {
     let (left, right, telling) = (asked.left, asked.right, asked.telling);
     let first = open_side(rt, left, telling, Side::First)?;
     let second = open_side(rt, right, telling, Side::Second)?;
     let mut first = as_asked(rt, asked, left, first);
-    // The second is not told of where the first is refused.
-    let mut second = match first.readable() {
-        Ok(()) => as_asked(rt, asked, right, second),
-        Err(_) => Opened::plain(rt.alloc(), second),
+    // Where the first is refused, nothing is looked for in the second.
+    let mut second = if first.is_readable() {
+        as_asked(rt, asked, right, second)
+    } else {
+        Opened::plain(rt.alloc(), second)
     };
-    let mut report = Report::new(telling);
-    let answer = answer_of(rt, asked, &mut first, &mut second, &mut report, steps);
-    hint(rt, asked, &answer, &report);
+    let answer = answer_of(rt, asked, &mut first, &mut second, report, steps);
+    hint(rt, asked, &answer, report);
     if let Err(failure) = &answer {
         let refusal = &failure.refusal;
-        tell_cause(rt, asked, failure, &first.source, &second.source, &report);
+        tell_cause(rt, asked, failure, &first.source, &second.source, report);
         if matches!(failure.side, Side::First) {
             let name = Some(left.name());
-            explain_refusal(rt, name, refusal, telling, &mut first.source, steps);
+            explain_refusal(rt, name, refusal, telling, first.source, steps);
         } else {
             let name = Some(right.name());
-            explain_refusal(rt, name, refusal, telling, &mut second.source, steps);
+            explain_refusal(rt, name, refusal, telling, second.source, steps);
         }
     }
     answer
@@ -233,8 +253,12 @@ fn names_of(alloc: Global, left: Input, right: Input, side: Side) -> Result<Vec<
     Ok(text)
 }
 
-// Says why there is no answer, behind the names of the files that it is about.
-fn tell(rt: &HostRuntime, left: Input, right: Input, failure: Failure) {
+// Says why there is no answer, behind the names of the files that it is about; nothing where
+// whoever reads the answer has gone.
+fn tell(rt: &HostRuntime, left: Input, right: Input, failure: Failure, report: &Report) {
+    if report.is_silent() && matches!(failure.refusal, Refusal::WriteFailed) {
+        return;
+    }
     let mut errors = rt.stderr();
     if let Ok(names) = names_of(rt.alloc(), left, right, failure.side) {
         let _ = errors.write_all(names.as_slice());
@@ -249,10 +273,11 @@ pub(crate) fn compare_named<L: Ledger, M: Ledger>(
     asked: ComparedInputs,
     steps: &mut Steps<L, M>,
 ) -> ExitCode {
-    let answer = answer(rt, asked, steps);
+    let mut report = Report::new(asked.telling);
+    let answer = answer(rt, asked, &mut report, steps);
     let status = comparison_status(&answer);
     if let Err(failure) = answer {
-        tell(rt, asked.left, asked.right, failure);
+        tell(rt, asked.left, asked.right, failure, &report);
     }
     ExitCode::from(status)
 }

@@ -4,10 +4,10 @@ ghost use Rattle.std.specs.Prelude.{◌+◌, ◌≤◌, length, IfOk};
 
 use crate::judging::{ListedFile, SumJudge, Tally, check_listed, has_another, tally_status};
 use crate::running::{DIFFER, FoundSum};
-use crate::shell::action::{Finding, Input, SumCheck, Telling};
+use crate::shell::action::{Finding, Input, SumCheck};
 use crate::shell::check_files::{Manner, answer_of, name_in_list, read_list, read_names};
 use crate::shell::command_line::input_of;
-use crate::shell::file_names::word_of;
+use crate::shell::file_names::{push_shown, word_of};
 use crate::shell::list_sources::tell_fault;
 use crate::shell::lists::{ListFault, first_line, first_name, without_return};
 use crate::shell::reports::{NotedStream, Report, tell_of};
@@ -16,7 +16,7 @@ use mp4_answers::jobs::{Syntax, VerdictStyle};
 use mp4_answers::text::fault_text::fault_line;
 use mp4_answers::text::new_names::new_lines;
 use mp4_answers::text::plain_names::push_plain;
-use mp4_answers::text::sum_lines::{ListedSum, SumOf, push_name, tally_line};
+use mp4_answers::text::sum_lines::{ListedSum, SumOf, tally_line};
 use mp4_boxes::{Refusal, Steps};
 use mp4_content::Without;
 use mp4_store::{IoSink, Sink};
@@ -97,7 +97,8 @@ fn line_of(
     if said.is_none() && found.is_ok() {
         return Ok(line);
     }
-    push_name(&mut line, file.name.as_slice())?;
+    let name = word_of(alloc, file.name.as_slice())?;
+    push_shown(&mut line, name.as_str().as_bytes())?;
     line.extend_from_slice(b": ")?;
     match (said, found) {
         (Some(said), _) => line.extend_from_slice(said.as_bytes())?,
@@ -218,15 +219,15 @@ pub(crate) fn check_sums<L: Ledger, M: Ledger>(
     rt: &HostRuntime,
     list: Input,
     how: SumCheck,
+    report: &mut Report,
     steps: &mut Steps<L, M>,
 ) -> Result<u8, Refusal> {
-    let mut report = Report::new(how.telling);
-    let files = read_sums(rt, list, &mut report)?;
+    let files = read_sums(rt, list, report)?;
     if files.is_empty() {
         return Ok(NO_LIST);
     }
     let files = files.as_slice();
-    match check_files(rt, files, how, &mut report, steps) {
+    match check_files(rt, files, how, report, steps) {
         Ok(tally) => {
             tell_tally(rt, files.len(), tally, how);
             Ok(tally_status(tally))
@@ -291,8 +292,25 @@ fn lines_of_new(
     }
     let names = read_names(rt, sought.names, report)?;
     let given = names_given(alloc, sought.words, names.as_slice())?;
-    let lines = new_lines(alloc, listed.as_slice(), given.as_slice(), sought.end)?;
-    Ok(Some(lines))
+    let (listed, given) = (listed.as_slice(), given.as_slice());
+    if sought.end == 0 || !rt.stdout().is_terminal() {
+        return Ok(Some(new_lines(alloc, listed, given, sought.end)?));
+    }
+    let names = new_lines(alloc, listed, given, 0)?;
+    Ok(Some(shown_lines(alloc, names.as_slice())?))
+}
+
+// Names that are ended by zero bytes, each as a person is shown it, on a line of its own.
+fn shown_lines(alloc: Global, names: &[u8]) -> Result<Vec<u8>, AllocError> {
+    let mut lines = Vec::new(alloc);
+    let mut left = names;
+    while !left.is_empty() {
+        let (name, rest) = first_name(left);
+        push_shown(&mut lines, name)?;
+        lines.push(b'\n')?;
+        left = rest;
+    }
+    Ok(lines)
 }
 
 /// Reads a list of sums whole, and puts the names of those files that it has not. No file is
@@ -301,16 +319,15 @@ pub(crate) fn tell_new(
     rt: &HostRuntime,
     list: Input,
     sought: Sought,
-    telling: Telling,
+    report: &mut Report,
 ) -> Result<u8, Refusal> {
-    let mut report = Report::new(telling);
-    let Some(lines) = lines_of_new(rt, list, sought, &mut report)? else {
+    let Some(lines) = lines_of_new(rt, list, sought, report)? else {
         return Ok(NO_LIST);
     };
     if lines.is_empty() {
         return Ok(0);
     }
-    let put = put_lines(rt, lines.as_slice(), &mut report);
+    let put = put_lines(rt, lines.as_slice(), report);
     if matches!(put, Err(Refusal::WriteFailed)) {
         report.tell_output(rt, "-");
     }
