@@ -143,9 +143,8 @@ def told(kind: bytes, data: bytes, most: int) -> dict | None:
     layout = LAYOUTS.get(kind)
     if layout is None:
         return None
-    version = flags = 0
-    if layout.last != '-' and len(data) >= 4:
-        version, flags = data[0], int.from_bytes(data[1:4], 'big')
+    version = data[0] if layout.last != '-' and data else 0
+    flags = int.from_bytes(data[1:4], 'big') if layout.last != '-' and len(data) >= 4 else 0
     known = not layout.last.isdigit() or version <= int(layout.last)
     fields = layout.fields if known else layout.fields[:2]
     found = read(fields, data, version, flags)

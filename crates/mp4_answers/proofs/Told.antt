@@ -23,20 +23,12 @@ one_more [] k d lt = absurd (omega (arith, lt))
 one_more (x ∷ xs) zero d lt = refl
 one_more (x ∷ xs) (suc k) d lt = ap (λ (ys : List _). x ∷ ys) (one_more xs k d (omega (arith, lt)))
 
-one_there : {A : Type 0} (xs : List A) (k : ℕ) (d : A) → k < length xs → xs ≡ take k xs ++ get_or xs k d ∷ drop (suc k) xs
-one_there [] k d lt = absurd (omega (arith, lt))
-one_there (x ∷ xs) zero d lt = refl
-one_there (x ∷ xs) (suc k) d lt = ap (λ (ys : List _). x ∷ ys) (one_there xs k d (omega (arith, lt)))
-
 pub flat_two : {A : Type 0} (f : A → List ℕ) (xs ys : List A) → flat_map f (xs ++ ys) ≡ flat_map f xs ++ flat_map f ys
 flat_two f [] ys = refl
 flat_two f (x ∷ xs) ys = ap (λ (bs : List ℕ). f x ++ bs) (flat_two f xs ys) ∙ sym (append_assoc (f x) (flat_map f xs) (flat_map f ys))
 
 pub flat_next : {A : Type 0} (f : A → List ℕ) (xs : List A) (k : ℕ) (d : A) → k < length xs → flat_map f (take (k + 1) xs) ≡ flat_map f (take k xs) ++ f (get_or xs k d)
 flat_next f xs k d lt = ap (λ n. flat_map f (take n xs)) (plus_one k) ∙ ap (flat_map f) (one_more xs k d lt) ∙ flat_two f (take k xs) (get_or xs k d ∷ []) ∙ ap (λ (bs : List ℕ). flat_map f (take k xs) ++ bs) (append-nil (f (get_or xs k d)))
-
-pub flat_rest : {A : Type 0} (f : A → List ℕ) (xs : List A) (k : ℕ) (d : A) → k < length xs → flat_map f xs ≡ flat_map f (take k xs) ++ (f (get_or xs k d) ++ flat_map f (drop (k + 1) xs))
-flat_rest f xs k d lt = ap (flat_map f) (one_there xs k d lt) ∙ flat_two f (take k xs) (get_or xs k d ∷ drop (suc k) xs) ∙ ap (λ n. flat_map f (take k xs) ++ (f (get_or xs k d) ++ flat_map f (drop n xs))) (sym (plus_one k))
 
 pub flat_all : {A : Type 0} (f : A → List ℕ) (xs : List A) (k : ℕ) → length xs ≤ k → flat_map f (take k xs) ≡ flat_map f xs
 flat_all f xs k le = ap (flat_map f) (take_everything xs k le)
@@ -93,7 +85,3 @@ module _ {Y : Type 0} (K : Sink Y) {a b : Latch Y} (text : List ℕ) (x : Goes K
 
   pub tells_front : {T : Type 0} → a.has_failed ≡ false → b.has_failed ≡ true → Tells {T = T} K a.sink.now b.sink.now a.out.now b.out.now text (Err refusals.WriteFailed)
   tells_front ok bad = let p = x.stops ok bad in record { all = tt; front = p.prefix; puts = tt; refusal = p.puts }
-
--- the same text
-pub tells_is : {Y T : Type 0} (K : Sink Y) (s t : Y) (c d : OutBuffer) (x whole : List ℕ) (r : Result T Refusal) → Tells K s t c d x r → x ≡ whole → Tells K s t c d whole r
-tells_is K s t c d x whole r p w = subst (λ (bs : List ℕ). Tells K s t c d bs r) w p

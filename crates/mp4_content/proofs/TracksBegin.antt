@@ -21,7 +21,6 @@ use Rattle.mp4_present.specs.words.ToldTrees.{IsTold}
 use Rattle.mp4_present.specs.declared.track_info.TrackInfo.{TrackInfo}
 use Rattle.mp4_present.specs.format.Presentation.{Sample, Track, Presentation}
 use Rattle.mp4_content.specs.format.LeadIns.{Moment, some_sample, has_samples, begins_simply, is_last, is_lead_in, says_more, says_beginnings, first_moments, later, delay, wait_of, delays_of}
-use Rattle.mp4_content.specs.format.LeadInsLaws.{Among}
 use Rattle.mp4_content.specs.format.Reduced.{first_offset}
 use Rattle.mp4_content.specs.words.Delays.{AllCanBegin, CanBegin, IsFirstOf, SayBeginnings, SaysBeginning, later_than, moment_of, moments_in, told_waits}
 use Rattle.mp4_content.specs.declared.delays.Beginning.{Beginning}

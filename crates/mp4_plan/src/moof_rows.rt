@@ -1,6 +1,6 @@
 //! The rows of a `moof`: those of `trun`, and the `sbgp`s behind it (ISO/IEC 14496-12, 8.8.8 and
 //! 8.9.2).
-ghost use Rattle.std.specs.Prelude.{◌≡◌, ℕ, ◌+◌, ◌-◌, ◌^◌, ◌<◌, ◌≤◌, List, [], ◌∷◌, ◌++◌, None, flat_map, length, IfSome};
+ghost use Rattle.std.specs.Prelude.{◌≡◌, ℕ, ◌+◌, ◌-◌, ◌^◌, ◌<◌, ◌≤◌, List, [], ◌++◌, None, flat_map, length, IfSome};
 ghost use Rattle.mp4_tables.specs.format.Groups.{GroupKey as KeySeen};
 ghost use Rattle.mp4_tables.specs.words.Keys.{key_seen, keys_seen};
 ghost use Rattle.mp4_present.specs.words.Latches.{Goes};

@@ -1,34 +1,31 @@
 -- The samples that come in a walk are those that the function of file, movie and walk gives.
-use Rattle.std.proofs.Common.{◌≡◌, ℕ, zero, suc, ◌+◌, ◌-◌, ◌^◌, ◌<◌, ◌≤◌, List, [], ◌∷◌, ◌++◌, Option, Some, None, length, take, drop, map, refl, sym, ap, subst, ◌∙◌, arith, append_assoc, slice_get}
+use Rattle.std.proofs.Common.{◌≡◌, ℕ, zero, suc, ◌+◌, ◌-◌, ◌^◌, ◌<◌, ◌≤◌, List, [], ◌∷◌, ◌++◌, Option, Some, length, take, drop, map, refl, sym, ap, subst, ◌∙◌, arith, append_assoc, slice_get}
 use Rattle.std.specs.Prelude.{Contains, flat_map, option_map}
 use Rattle.std.proofs.lemmas.List.{length-append, length-map, length-take, map-append}
 use Rattle.std.proofs.lemmas.Option.{slice_get-map}
 use Rattle.mp4_store.specs.words.Device.{range}
 use Rattle.mp4_boxes.specs.format.Bytes.{sum_of}
-use Rattle.mp4_boxes.proofs.Plain.{get_every, get_some, get_zip, some_is}
+use Rattle.mp4_boxes.proofs.Plain.{get_some, get_zip, some_is}
 use Rattle.mp4_tables.specs.words.Accepted.{AreDistinct}
 use Rattle.mp4_tables.specs.words.Keys.{key_seen, keys_seen}
 use Rattle.mp4_tables.specs.words.Timed.{timed}
 use Rattle.mp4_tables.specs.words.TablesSeen.{CursorSeen as TableView}
-use Rattle.mp4_tables.specs.format.Groups.{GroupKey}
-use Rattle.mp4_tables.specs.format.PlainSamples.{PlacedSample}
 use Rattle.mp4_tables.specs.format.Tables.{tables_of}
 use Rattle.mp4_tables.specs.declared.keys.Keys.{Keys}
 use Rattle.mp4_tables.specs.declared.sample.SampleAt.{SampleAt}
 use Rattle.mp4_tables.proofs.SampleLists.{timed_length}
 use Rattle.mp4_tables.proofs.Sums.{timed_lasts}
 use Rattle.mp4_frag.specs.format.FragmentSamples.{Part, duration_of, fragment_samples, part_samples, trex_for}
-use Rattle.mp4_frag.specs.words.OwnTrafs.{OwnSeen, PlacedTraf, note_of, own_in, placed_samples}
+use Rattle.mp4_frag.specs.words.OwnTrafs.{PlacedTraf, note_of, own_in, placed_samples}
 use Rattle.mp4_frag.specs.words.Walks.{samples_in}
 use Rattle.mp4_frag.specs.words.FragmentsSeen.{CursorSeen as TrafView}
-use Rattle.mp4_frag.specs.declared.next_traf.OwnTraf.{OwnTraf}
 use Rattle.mp4_frag.proofs.OwnTied.{own_tied}
 use Rattle.mp4_head.specs.format.Tree.{TrackTree, track_head_of, trexes_of}
 use Rattle.mp4_present.specs.format.Presentation.{Track, max_samples}
 use Rattle.mp4_present.specs.format.Denotes.{FileTree, file_parts, parts_of_track, placed_of, plain_of, presentation_of, sample_of, track_of}
 use Rattle.mp4_present.specs.words.Coming.{coming, coming_behind, hand_coming, lasting, tables_coming, trafs_coming}
 use Rattle.mp4_present.specs.words.InHand.{left_in_hand}
-use Rattle.mp4_present.specs.words.Movies.{MovieSeen, HandAt, IsWalkOf, tables_seen, trex_at}
+use Rattle.mp4_present.specs.words.Movies.{MovieSeen, HandAt, IsWalkOf, trex_at}
 use Rattle.mp4_present.specs.words.OpenedMovie.{IsInfoOf, IsOpenedAs}
 use Rattle.mp4_present.specs.words.OwnTrafs.{IsOwn}
 use Rattle.mp4_present.specs.words.SamplesComing.{Comes, count_behind, due_behind, own_trafs, samples_behind, track_keys}

@@ -43,10 +43,12 @@ impl<'a, K: Sink> Latch<'a, K> {
         }
     }
 
-    /// Answers whether a put failed.
+    /// Answers whether a put failed. What was borrowed is given back as it is.
     pub fn close(self) -> Result<(), WriteFailed>
         ensures ok { OnOk result (self.entry.has_failed ≡ false) }
         ensures err { OnErr result (self.entry.has_failed ≡ true) }
+        ensures out { self.exit.0 ≡ self.entry.out }
+        ensures sink { self.exit.1.0 ≡ self.entry.sink }
     {
         if self.has_failed {
             return Err(WriteFailed);

@@ -1,6 +1,6 @@
 -- The samples that a walk over a track has still to come, as a function of the file that its movie
 -- was opened from, of the movie, and of the walk.
-use Rattle.std.specs.Prelude.{ℕ, ◌+◌, ◌-◌, List, [], ◌∷◌, ◌++◌, length, drop, Option, None, Some, slice_get}
+use Rattle.std.specs.Prelude.{ℕ, ◌+◌, ◌-◌, List, [], ◌∷◌, ◌++◌, length, drop, Option, Some, slice_get}
 use Rattle.mp4_boxes.specs.format.Bytes.{sum_of}
 use Rattle.mp4_store.specs.words.Device.{range}
 use Rattle.mp4_tables.specs.words.Keys.{keys_seen}

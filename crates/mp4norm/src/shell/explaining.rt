@@ -169,8 +169,8 @@ fn way_read<S: Store>(alloc: Global, store: &mut S, fault: &Fault) -> Result<Way
     way_to(alloc, store, fault.offset - 1)
 }
 
-// Whether a way ends with the box that a fault names: a container where a header in it is cut short,
-// and else the box at the fault's offset.
+// Whether a way ends with the box that a fault names: a container where a header in it is cut
+// short, and else the box at the fault's offset.
 fn ends_with(last: WayBox, fault: &Fault) -> bool {
     let is_there = fault.kind == Kind::ShortHeader || last.offset == fault.offset;
     last.kind.0 == fault.box_type && is_there
@@ -306,8 +306,8 @@ fn push_meaning(
     push_line(text, meaning_of(fault).as_bytes(), remedy)
 }
 
-/// Three lines on a fault of a file: the way to the named box, the clause of the standard that tells
-/// of it, and what the kind means, with what helps; and a fourth one where numbers go with the
+/// Three lines on a fault of a file: the way to the named box, the clause of the standard that
+/// tells of it, and what the kind means, with what helps; and a fourth one where numbers go with the
 /// fault. Before them stands the name of the file, where it is given.
 pub(crate) fn explanation(
     alloc: Global,

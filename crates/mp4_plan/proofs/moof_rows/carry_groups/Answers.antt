@@ -15,7 +15,8 @@ loop-key-init g c =
     let keys = keys_seen c.args.keys.now in
     let order = in_key_order (used_from c.args.planned.now.group_rows 0 keys) in
     let all = all_to_come order in
-    (λ apart. ([], goes_nothing g.K.Sink _ g.met.K.Sink.takes_on (g.met.K.Sink.takes_nothing _), all, (let few = few_used c.args.planned.now.group_rows keys in let same = ap length all in omega (arith, few, same))), ([], omega arith, omega arith, goes_nothing g.K.Sink _ g.met.K.Sink.takes_on (g.met.K.Sink.takes_nothing _)))
+    let none = goes_nothing g.K.Sink c.args.latch.now g.met.K.Sink.takes_on (g.met.K.Sink.takes_nothing _) in
+    (λ apart. ([], none, all, (let few = few_used c.args.planned.now.group_rows keys in let same = ap length all in omega (arith, few, same))), ([], omega arith, omega arith, none))
 
 pub loop-key-preserved : goal.loop-key-preserved
 loop-key-preserved g c =

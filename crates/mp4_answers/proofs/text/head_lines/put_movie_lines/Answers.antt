@@ -1,4 +1,3 @@
-use Rattle.std.proofs.Common.{◌++◌}
 use Rattle.mp4_head.specs.words.Seen.{movie_seen}
 use Rattle.mp4_present.proofs.Latched.{goes_is, goes_on}
 use Rattle.mp4_answers.proofs.HeadTexts.{lines_are, movie_is}

@@ -1,4 +1,4 @@
-use Rattle.std.proofs.Common.{[], ◌∷◌, refl, rules, subst, sym}
+use Rattle.std.proofs.Common.{[], ◌∷◌, refl, rules}
 use Rattle.mp4_present.specs.words.InHand.{follows_itself, follows_on, left_in_hand}
 use Rattle.mp4_present.proofs.WalkCopied.{kept_before}
 use Rattle.mp4_present.proofs.WalkPlaces.{kept_on}

@@ -17,7 +17,9 @@ loop-into-init g c =
       looks = e.looks;
       grows = e.grows;
       takes = λ told tree t n o may. e.work (g.S.Store.file c.args.store.now) tree t n o may;
-      added = λ told tree t samples o k. hand_added g.F.Fold.takes (g.S.Store.file c.args.store.now) tree t c.args.movie.now c.args.into.now c.args.into.now c.fold_hand.new.into c.args.walk.now c.fold_hand.new.walk samples samples (none_handed g.F.Fold.takes c.args.into.now samples) k e.added (e.walk.stands (g.S.Store.file c.args.store.now) tree t);
+      added = λ told tree t samples o k.
+          hand_added g.F.Fold.takes (g.S.Store.file c.args.store.now) tree t c.args.movie.now c.args.into.now c.args.into.now c.fold_hand.new.into c.args.walk.now c.fold_hand.new.walk samples samples (none_handed g.F.Fold.takes c.args.into.now samples) k e.added
+          (e.walk.stands (g.S.Store.file c.args.store.now) tree t);
     }
 
 pub loop-into-preserved : goal.loop-into-preserved
