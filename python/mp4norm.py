@@ -493,14 +493,14 @@ def _content(file: File) -> Iterator[Optional[bytes]]:
         return
     name = os.fspath(file)
     with _opened(name) as opened:
-        first = opened and _state(os.fstat(opened.fileno()))
+        first = opened and _state_at(opened, name)
         if not opened or not first or first.length > LONGEST:
             yield None
             return
         try:
             yield _read(opened, name, first.length)
         finally:
-            if _state(os.fstat(opened.fileno())) != first:
+            if _state_at(opened, name) != first:
                 raise Failed(name, "store changed")
 
 
@@ -521,6 +521,13 @@ def _opened(name: str) -> ContextManager[Optional[IO[bytes]]]:
 def _read(opened: IO[bytes], name: str, length: int) -> bytes:
     try:
         return opened.read(length)
+    except OSError as error:
+        raise _unreadable(name, error) from None
+
+
+def _state_at(opened: IO[bytes], name: str) -> Optional[State]:
+    try:
+        return _state(os.fstat(opened.fileno()))
     except OSError as error:
         raise _unreadable(name, error) from None
 
