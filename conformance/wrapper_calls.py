@@ -26,7 +26,7 @@ from fractions import Fraction
 import trials
 from scripts import script
 from suite import scales
-from suite.boxes import Box, File
+from suite.boxes import Box
 from suite.movies import whole
 from suite.stored import PLAIN, bytes_of, names
 from trials import Room

@@ -35,8 +35,8 @@ import tempfile
 import unicodedata
 from dataclasses import dataclass, field, fields
 from fractions import Fraction
-from typing import (Any, Callable, Dict, Iterable, Iterator, List, Mapping, NamedTuple, Optional,
-                    Sequence, Tuple, Type, TypeVar, Union, cast)
+from typing import (IO, Any, Callable, ContextManager, Dict, Iterable, Iterator, List, Mapping,
+                    NamedTuple, Optional, Sequence, Tuple, Type, TypeVar, Union, cast)
 
 __all__ = ["Alignment", "Between", "Box", "Comparison", "Difference", "Edit", "Error", "Failed",
            "Movie", "Refused", "Sample", "Track", "boxes", "check", "columns", "compare",
@@ -484,34 +484,56 @@ def _loaded(name: str) -> Any:
         raise Failed(name, f"it can't be loaded: {error}") from None
 
 
-def _bytes_of(file: File) -> Optional[bytes]:
-    """The bytes of a file; None where the program has to look at it."""
+@contextlib.contextmanager
+def _content(file: File) -> Iterator[Optional[bytes]]:
+    """The bytes of a file, which has to stay as it is until they were looked at, or has changed, as
+    the program says; None where the program has to look at it."""
     if isinstance(file, bytes):
-        return file
+        yield file
+        return
     name = os.fspath(file)
+    with _opened(name) as opened:
+        first = opened and _state_at(opened, name)
+        if not opened or not first or first.length > LONGEST:
+            yield None
+            return
+        try:
+            yield _read(opened, name, first.length)
+        finally:
+            if _state_at(opened, name) != first:
+                raise Failed(name, "store changed")
+
+
+def _opened(name: str) -> ContextManager[Optional[IO[bytes]]]:
+    """A file that is open. What has a name that isn't UTF-8, and what is no file, isn't opened; and
+    what has just come to this name isn't waited for."""
     try:
         os.fsencode(name).decode()
-        return _read(name)
+        if _state(os.stat(name)) is None:
+            return contextlib.nullcontext()
+        return open(name, "rb", opener=lambda path, flags: os.open(path, flags | NOT_WAITING))
     except UnicodeDecodeError:
-        return None
+        return contextlib.nullcontext()
     except OSError as error:
-        raise Failed(name, "store", (error.strerror or "").lower()) from None
+        raise _unreadable(name, error) from None
 
 
-def _read(name: str) -> Optional[bytes]:
-    """The bytes of a file that stays as it is while it is read, or Failed; None of what is no file,
-    which isn't opened or, where it has just come to this name, isn't waited for, and of what is too
-    long for memory."""
-    if _state(os.stat(name)) is None:
-        return None
-    with open(name, "rb", opener=lambda path, flags: os.open(path, flags | NOT_WAITING)) as opened:
-        first = _state(os.fstat(opened.fileno()))
-        if first is None or first.length > LONGEST:
-            return None
-        content = opened.read(first.length)
-        if len(content) < first.length or _state(os.fstat(opened.fileno())) != first:
-            raise Failed(name, "store changed")
-    return content
+def _read(opened: IO[bytes], name: str, length: int) -> bytes:
+    try:
+        return opened.read(length)
+    except OSError as error:
+        raise _unreadable(name, error) from None
+
+
+def _state_at(opened: IO[bytes], name: str) -> Optional[State]:
+    try:
+        return _state(os.fstat(opened.fileno()))
+    except OSError as error:
+        raise _unreadable(name, error) from None
+
+
+def _unreadable(name: str, error: OSError) -> Failed:
+    return Failed(name, "store", (error.strerror or "").lower())
 
 
 def _state(about: os.stat_result) -> Optional[State]:
@@ -583,9 +605,12 @@ def _text(call: str, file: File, *numbers: int) -> Optional[bytes]:
     # A library of before has no fields.
     if not hasattr(library, f"mp4norm_{call}_range"):
         return None
-    content = _bytes_of(file)
-    if content is None:
-        return None
+    with _content(file) as content:
+        return None if content is None else _text_of(library, call, file, content, numbers)
+
+
+def _text_of(library: Any, call: str, file: File, content: bytes, numbers: Sequence[int]) -> bytes:
+    """The same, of the bytes of a file."""
     from ctypes import c_uint32, c_uint64
     # The rows of fields are the one number of 64 bits.
     words = _given(content) + tuple(c_uint64(it) if call == "fields" and at else c_uint32(it)
@@ -608,38 +633,43 @@ def _compared(a: File, b: File, flags: Optional[int], limit: int,
     if (flags is None or not isinstance(limit, int) or not 0 <= limit < 1 << 32
             or not hasattr(library, call)):
         return None
-    contents = [_bytes_of(file) for file in (a, b)]
-    words = [word for content in contents if content is not None for word in _given(content)]
-    if None in contents:
-        return None
     asked = struct.pack(ASKED, flags, ALIGNED if align else ALL, limit, JSON)
+    with _content(a) as one, _content(b) as other:
+        if one is None or other is None:
+            return None
+        words = _given(one) + _given(other)
 
-    def ask(*window: Any) -> int:
-        return _ask(library, [a, b], "compare_range", *words, asked, *window)
+        def ask(*window: Any) -> int:
+            return _ask(library, [a, b], "compare_range", *words, asked, *window)
 
-    return _windows(ask, ROOM + 256 * min(limit, ROOM), 4)
+        return _windows(ask, ROOM + 256 * min(limit, ROOM), 4)
 
 
 def _looked(call: str, name: str, flags: Optional[int]) -> Optional[Dict[str, Any]]:
     """What the library tells of a file, as an object of the program; None as of `_text`."""
     library = _library()
+    if library is None or flags is None:
+        return None
     try:
-        content = None if library is None or flags is None else _bytes_of(name)
-        if content is None:
-            return None
-        if call == "check":
-            _ask(library, [name], call, *_given(content))
-            return {"status": DONE}
-        from ctypes import c_uint32, create_string_buffer
-        digest = create_string_buffer(32)
-        _ask(library, [name], call, *_given(content), c_uint32(flags or 0), digest)
-        return {"sha256": digest.raw.hex()}
+        with _content(name) as content:
+            return None if content is None else _looked_at(library, call, name, content, flags)
     except Refused as error:
         return {"refused": {"kind": error.kind, "box": error.box, "offset": error.offset}}
     except Failed as error:
         if error.file != name:
             raise
         return {"failed": error.what}
+
+
+def _looked_at(library: Any, call: str, name: str, content: bytes, flags: int) -> Dict[str, Any]:
+    """The same of a file that has an answer, by its bytes."""
+    if call == "check":
+        _ask(library, [name], call, *_given(content))
+        return {"status": DONE}
+    from ctypes import c_uint32, create_string_buffer
+    digest = create_string_buffer(32)
+    _ask(library, [name], call, *_given(content), c_uint32(flags), digest)
+    return {"sha256": digest.raw.hex()}
 
 
 def _flags(left: Sequence[str]) -> Optional[int]:

@@ -793,6 +793,23 @@ class Ways(Case):
         self.assertEqual(caught.exception.file, './none')
 
     @unittest.skipUnless(os.environ.get('MP4NORM_LIBRARY') or '--library' in sys.argv, 'no library')
+    def test_changes(self):
+        """A file that changes before there is an answer has none, nor a refusal."""
+        def changing(*words):
+            for name in ('plain.mp4', 'cut.mp4'):
+                os.utime(name, (1, 1))
+            return ask(*words)
+        ask = mp4norm._ask
+        with mock.patch.object(mp4norm, '_ask', changing):
+            for name in ('plain.mp4', 'cut.mp4'):
+                for call in (mp4norm.show, mp4norm.boxes, mp4norm.normalise):
+                    self.fails(name, 'store changed', call, name)
+                self.fails(name, 'store changed', mp4norm.compare, name, PLAIN)
+                self.fails(name, 'store changed', mp4norm.compare, PLAIN, name)
+                for call in (mp4norm.check, mp4norm.sum):
+                    self.is_told(call(name)[name], name, 'store changed')
+
+    @unittest.skipUnless(os.environ.get('MP4NORM_LIBRARY') or '--library' in sys.argv, 'no library')
     def test_no_program(self):
         """Where there is a library and no program, an error says what is wrong, or what wants one."""
         os.mkfifo('fifo')
