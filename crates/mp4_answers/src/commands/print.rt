@@ -434,7 +434,11 @@ fn put_front<K: Sink>(
         (head_lines (track_seen head.now)
         ++ number_line (codes "start") start ++ samples_heading head.now.id) result }
 {
-    let mut latch = Latch::new(text, sink);
+    let mut latch = Latch {
+        out: text,
+        sink,
+        has_failed: false,
+    };
     put_head(head, &mut latch);
     put_all_named(&[number(b"start", start)], &mut latch);
     let end = b": duration, offset, flags, description, size, SHA-256, groups\n";
@@ -451,7 +455,11 @@ fn put_movie<K: Sink>(
     ensures { Tells K.Sink sink.old sink.new text.old text.new
         (movie_lines (movie_seen head.now)) result }
 {
-    let mut latch = Latch::new(text, sink);
+    let mut latch = Latch {
+        out: text,
+        sink,
+        has_failed: false,
+    };
     put_movie_lines(head, &mut latch);
     Ok(latch.close()?)
 }
