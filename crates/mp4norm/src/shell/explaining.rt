@@ -317,9 +317,9 @@ fn push_meaning(
     push_line(text, meaning_of(fault).as_bytes(), remedy)
 }
 
-/// Three lines on a fault of a file: the way to the named box, the clause of the standard that tells
-/// of it, and what the kind means, with what helps; and a fourth one where numbers go with the
-/// fault. Before them stands the name of the file, where it is given.
+/// Three lines on a fault of a file: the way to the named box, the clause of the standard that
+/// tells of it, and what the kind means, with what helps; and a fourth one where numbers go with
+/// the fault. Before them stands the name of the file, where it is given.
 pub(crate) fn explanation(
     alloc: Global,
     name: Option<&str>,

@@ -1,5 +1,5 @@
-//! What becomes of a file that has a box which the profile refuses: whether the copy is accepted that
-//! `strip --foreign` makes of it, or what is wrong with that.
+//! What becomes of a file that has a box which the profile refuses: whether the copy is accepted
+//! that `strip --foreign` makes of it, or what is wrong with that.
 use mp4_answers::commands::check::check_counted;
 use mp4_answers::commands::stripped_store::{WithoutForeign, read_without_foreign};
 use mp4_answers::text::fault_text::fault_line;
