@@ -6,7 +6,8 @@ ghost use Rattle.mp4_present.specs.words.Latches.{Goes};
 use crate::out_buffer::OutBuffer;
 use mp4_store::{Sink, WriteFailed};
 
-/// A sink behind its buffer, and whether a put failed since both were borrowed: none has, where it is made.
+/// A sink behind its buffer, and whether a put failed since both were borrowed; where it is made
+/// none has.
 #[derive(Drop)]
 pub struct Latch<'a, K> {
     pub out: &'a mut OutBuffer,

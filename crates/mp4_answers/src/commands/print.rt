@@ -447,11 +447,7 @@ fn put_front<K: Sink>(
 }
 
 // Puts what the movie says.
-fn put_movie<K: Sink>(
-    head: &MovieHead,
-    text: &mut OutBuffer,
-    sink: &mut K,
-) -> Result<(), Refusal>
+fn put_movie<K: Sink>(head: &MovieHead, text: &mut OutBuffer, sink: &mut K) -> Result<(), Refusal>
     ensures { Tells K.Sink sink.old sink.new text.old text.new
         (movie_lines (movie_seen head.now)) result }
 {
