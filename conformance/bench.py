@@ -130,7 +130,7 @@ def escaped(name: bytes | str) -> bytes:
 def verdict(name: bytes | str, said: bytes, end: bytes = b'\n') -> bytes:
     """A line of `check`; only where a zero byte ends it, the name stands there as it is."""
     name = escaped(name) if end == b'\n' else os.fsencode(name)
-    return name + b': ' + (said.removesuffix(MISSING) or b'accepted') + end
+    return name + b': ' + (said or b'accepted').removesuffix(MISSING) + end
 
 
 def status_of(said: bytes) -> int:

@@ -211,7 +211,9 @@ export function wayTo(boxes, { kind, type, offset }) {
     // The way ends where a header in the same container can't be read.
     const unsure = all.findIndex(box => box.isUnsure);
     const best = unsure < 0 ? all : all.slice(0, unsure);
-    if (best.at(-1)?.type !== type) best.push({ type, number: 0 });
+    const last = best.at(-1);
+    const isThere = kind === 'ShortHeader' || Number(last?.offset) === Number(offset);
+    if (last?.type !== type || !isThere) best.push({ type, number: 0 });
     return best.map(box => `${box.type}${isNumbered(boxes, box) ? ` ${box.number}` : ''}`)
         .join(' / ');
 }

@@ -60,11 +60,7 @@ fn spell_rows(rows: &[Row], planned: &Planned, out: &mut Spelled)
 }
 
 /// Takes the rows of `trun` along.
-pub(crate) fn carry_run<K: Sink>(
-    rows: &[Row],
-    planned: &Planned,
-    latch: &mut Latch<K>,
-)
+pub(crate) fn carry_run<K: Sink>(rows: &[Row], planned: &Planned, latch: &mut Latch<K>)
     ensures { Goes K.Sink latch.old latch.new
         (run_rows planned.now rows.now) }
 {
@@ -126,10 +122,7 @@ pub(crate) struct IndexRun {
 }
 
 // Takes a run along, where there is one.
-fn carry_index_run<K: Sink>(
-    run: IndexRun,
-    latch: &mut Latch<K>,
-)
+fn carry_index_run<K: Sink>(run: IndexRun, latch: &mut Latch<K>)
     ensures { Goes K.Sink latch.old latch.new
         (flat_map group_row (runs_left run.count run.index [])) }
 {
@@ -139,11 +132,7 @@ fn carry_index_run<K: Sink>(
 }
 
 // The run in hand with one index more. Where that is another one, the run is taken along.
-fn carry_index<K: Sink>(
-    run: IndexRun,
-    index: u16,
-    latch: &mut Latch<K>,
-) -> IndexRun
+fn carry_index<K: Sink>(run: IndexRun, index: u16, latch: &mut Latch<K>) -> IndexRun
     requires { run.count + 1 < 2 ^ 32 }
     ensures count { result.count ≤ run.count + 1 }
     ensures put { (values : List ℕ) → WritesRuns (Goes K.Sink latch.old latch.new)
@@ -160,11 +149,7 @@ fn carry_index<K: Sink>(
 }
 
 // Takes the rows of an `sbgp` along: the longest runs of equal indexes at the key of this place.
-fn carry_indexes<K: Sink>(
-    rows: &[Row],
-    place: u8,
-    latch: &mut Latch<K>,
-)
+fn carry_indexes<K: Sink>(rows: &[Row], place: u8, latch: &mut Latch<K>)
     requires place { place < 4 }
     requires few { length rows.now < 2 ^ 32 - 1 }
     ensures { Goes K.Sink latch.old latch.new
@@ -222,12 +207,7 @@ fn next_key(planned: &Planned, keys: &Keys, behind: Option<u128>) -> Option<Used
 }
 
 // Takes the `sbgp` of a used key along.
-fn carry_group<K: Sink>(
-    used: UsedKey,
-    rows: &[Row],
-    planned: &Planned,
-    latch: &mut Latch<K>,
-)
+fn carry_group<K: Sink>(used: UsedKey, rows: &[Row], planned: &Planned, latch: &mut Latch<K>)
     requires place { used.place < 4 }
     requires few { length rows.now < 2 ^ 32 - 1 }
     ensures { Goes K.Sink latch.old latch.new

@@ -354,7 +354,11 @@ impl Writer {
         let sizes = sizes_of(planned, &keys);
         let rows = &self.notes.rows[..planned.count as usize];
         let front = moof_front(&head, planned, &sizes);
-        let mut latch = Latch::new(&mut self.carrier, sink);
+        let mut latch = Latch {
+            out: &mut self.carrier,
+            sink: &mut *sink,
+            has_failed: false,
+        };
         latch.put(front.as_bytes());
         carry_run(rows, planned, &mut latch);
         carry_groups(rows, planned, &keys, &mut latch);

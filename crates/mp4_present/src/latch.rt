@@ -6,30 +6,18 @@ ghost use Rattle.mp4_present.specs.words.Latches.{Goes};
 use crate::out_buffer::OutBuffer;
 use mp4_store::{Sink, WriteFailed};
 
-/// A sink behind its buffer, and whether a put failed since both were borrowed.
+/// A sink behind its buffer, and whether a put failed since both were borrowed; where it is made
+/// none has.
 #[derive(Drop)]
 pub struct Latch<'a, K> {
-    out: &'a mut OutBuffer,
-    sink: &'a mut K,
-    has_failed: bool,
+    pub out: &'a mut OutBuffer,
+    pub sink: &'a mut K,
+    pub has_failed: bool,
 }
 
 impl<'a, K: Sink> Latch<'a, K> {
     ghost use Rattle.std.specs.Prelude.{◌≡◌, true, false, OnOk, OnErr};
     ghost use Rattle.mp4_present.specs.words.Latches.{Goes};
-
-    /// No put failed.
-    pub fn new(out: &'a mut OutBuffer, sink: &'a mut K) -> Latch<'a, K>
-        ensures out { result.out ≡ out.entry }
-        ensures sink { result.sink ≡ sink.entry }
-        ensures begun { result.has_failed ≡ false }
-    {
-        Latch {
-            out,
-            sink,
-            has_failed: false,
-        }
-    }
 
     /// Takes these bytes along, where no put failed before.
     pub fn put(&mut self, bytes: &[u8])
@@ -43,12 +31,10 @@ impl<'a, K: Sink> Latch<'a, K> {
         }
     }
 
-    /// Answers whether a put failed. What was borrowed is given back as it is.
-    pub fn close(self) -> Result<(), WriteFailed>
-        ensures ok { OnOk result (self.entry.has_failed ≡ false) }
-        ensures err { OnErr result (self.entry.has_failed ≡ true) }
-        ensures out { self.exit.0 ≡ self.entry.out }
-        ensures sink { self.exit.1.0 ≡ self.entry.sink }
+    /// Answers whether a put failed.
+    pub fn close(&self) -> Result<(), WriteFailed>
+        ensures ok { OnOk result (self.now.has_failed ≡ false) }
+        ensures err { OnErr result (self.now.has_failed ≡ true) }
     {
         if self.has_failed {
             return Err(WriteFailed);

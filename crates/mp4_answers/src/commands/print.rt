@@ -434,7 +434,11 @@ fn put_front<K: Sink>(
         (head_lines (track_seen head.now)
         ++ number_line (codes "start") start ++ samples_heading head.now.id) result }
 {
-    let mut latch = Latch::new(text, sink);
+    let mut latch = Latch {
+        out: text,
+        sink,
+        has_failed: false,
+    };
     put_head(head, &mut latch);
     put_all_named(&[number(b"start", start)], &mut latch);
     let end = b": duration, offset, flags, description, size, SHA-256, groups\n";
@@ -443,15 +447,15 @@ fn put_front<K: Sink>(
 }
 
 // Puts what the movie says.
-fn put_movie<K: Sink>(
-    head: &MovieHead,
-    text: &mut OutBuffer,
-    sink: &mut K,
-) -> Result<(), Refusal>
+fn put_movie<K: Sink>(head: &MovieHead, text: &mut OutBuffer, sink: &mut K) -> Result<(), Refusal>
     ensures { Tells K.Sink sink.old sink.new text.old text.new
         (movie_lines (movie_seen head.now)) result }
 {
-    let mut latch = Latch::new(text, sink);
+    let mut latch = Latch {
+        out: text,
+        sink,
+        has_failed: false,
+    };
     put_movie_lines(head, &mut latch);
     Ok(latch.close()?)
 }

@@ -29,10 +29,7 @@ fn movie_values(head: &MovieHead) -> [Named; 6]
 }
 
 /// Puts the head of a movie.
-pub(crate) fn put_movie_lines<K: Sink>(
-    head: &MovieHead,
-    latch: &mut Latch<K>,
-)
+pub(crate) fn put_movie_lines<K: Sink>(head: &MovieHead, latch: &mut Latch<K>)
     ensures { Goes K.Sink latch.old latch.new
         (movie_lines (movie_seen head.now)) }
 {
@@ -42,12 +39,7 @@ pub(crate) fn put_movie_lines<K: Sink>(
 }
 
 /// Puts words around the ID of a track.
-pub(crate) fn put_heading<K: Sink>(
-    front: &[u8],
-    id: u32,
-    end: &[u8],
-    latch: &mut Latch<K>,
-)
+pub(crate) fn put_heading<K: Sink>(front: &[u8], id: u32, end: &[u8], latch: &mut Latch<K>)
     ensures { Goes K.Sink latch.old latch.new
         (front.now ++ decimal id ++ end.now) }
 {
@@ -77,10 +69,7 @@ fn track_values(head: &TrackHead) -> [Named; 9]
 }
 
 // Puts the head of a track, but its media and group descriptions.
-fn put_track<K: Sink>(
-    head: &TrackHead,
-    latch: &mut Latch<K>,
-)
+fn put_track<K: Sink>(head: &TrackHead, latch: &mut Latch<K>)
     ensures { Goes K.Sink latch.old latch.new
         (track_lines (track_seen head.now)) }
 {
@@ -117,10 +106,7 @@ fn put_media<K: Sink>(media: &Media, latch: &mut Latch<K>)
 }
 
 /// Puts the head of a track.
-pub(crate) fn put_head<K: Sink>(
-    head: &TrackHead,
-    latch: &mut Latch<K>,
-)
+pub(crate) fn put_head<K: Sink>(head: &TrackHead, latch: &mut Latch<K>)
     ensures { Goes K.Sink latch.old latch.new
         (head_lines (track_seen head.now)) }
 {

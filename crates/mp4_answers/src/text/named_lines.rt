@@ -158,10 +158,7 @@ fn put_named<K: Sink>(named: &Named, latch: &mut Latch<K>)
 }
 
 /// Puts the lines of some names.
-pub(crate) fn put_all_named<K: Sink>(
-    all: &[Named],
-    latch: &mut Latch<K>,
-)
+pub(crate) fn put_all_named<K: Sink>(all: &[Named], latch: &mut Latch<K>)
     ensures { Goes K.Sink latch.old latch.new
         (flat_map said_line all.now) }
 {
@@ -179,10 +176,7 @@ fn put_edit<K: Sink>(edit: &Edit, latch: &mut Latch<K>)
 }
 
 /// Puts the line of each edit.
-pub(crate) fn put_edits<K: Sink>(
-    edits: &[Edit],
-    latch: &mut Latch<K>,
-)
+pub(crate) fn put_edits<K: Sink>(edits: &[Edit], latch: &mut Latch<K>)
     ensures { Goes K.Sink latch.old latch.new
         (flat_map edit_line (map edit_seen edits.now)) }
 {

@@ -109,12 +109,7 @@ fn put_dumps<K: Sink>(bytes: &[u8], latch: &mut Latch<K>)
 }
 
 // Puts the length of a payload behind its name, and its bytes.
-fn put_spelled<K: Sink>(
-    name: &[u8],
-    kind: &[u8],
-    bytes: &[u8],
-    latch: &mut Latch<K>,
-)
+fn put_spelled<K: Sink>(name: &[u8], kind: &[u8], bytes: &[u8], latch: &mut Latch<K>)
     requires { length bytes.now ≤ 4096 }
     ensures { Goes K.Sink latch.old latch.new
         (payload_lines (name.now ++ kind.now) bytes.now) }
@@ -128,12 +123,7 @@ fn put_spelled<K: Sink>(
 }
 
 // Puts the length of a payload behind its name, and the digest of its bytes.
-fn put_told<K: Sink>(
-    name: &[u8],
-    kind: &[u8],
-    bytes: &[u8],
-    latch: &mut Latch<K>,
-)
+fn put_told<K: Sink>(name: &[u8], kind: &[u8], bytes: &[u8], latch: &mut Latch<K>)
     requires { 4096 < length bytes.now }
     ensures { Goes K.Sink latch.old latch.new
         (payload_lines (name.now ++ kind.now) bytes.now) }
@@ -151,12 +141,7 @@ fn put_told<K: Sink>(
 
 /// Puts a payload under a name of two parts: its length, and its bytes, or their digest where they
 /// are many.
-pub(crate) fn put_payload<K: Sink>(
-    name: &[u8],
-    kind: &[u8],
-    bytes: &[u8],
-    latch: &mut Latch<K>,
-)
+pub(crate) fn put_payload<K: Sink>(name: &[u8], kind: &[u8], bytes: &[u8], latch: &mut Latch<K>)
     ensures { Goes K.Sink latch.old latch.new
         (payload_lines (name.now ++ kind.now) bytes.now) }
 {
@@ -168,11 +153,7 @@ pub(crate) fn put_payload<K: Sink>(
 }
 
 /// Puts each of some payloads under a name.
-pub(crate) fn put_payloads<K: Sink>(
-    name: &[u8],
-    payloads: &[&[u8]],
-    latch: &mut Latch<K>,
-)
+pub(crate) fn put_payloads<K: Sink>(name: &[u8], payloads: &[&[u8]], latch: &mut Latch<K>)
     ensures { Goes K.Sink latch.old latch.new
         (flat_map (payload_lines name.now) (map (λ p. p.now) payloads.now)) }
 {
@@ -206,11 +187,7 @@ pub(crate) fn write_type(text: &mut [u8], end: usize, kind: FourCc) -> usize
 }
 
 /// Puts a box under a name: its type behind that, and its payload.
-pub(crate) fn put_kept<K: Sink>(
-    name: &[u8],
-    kept: &Kept,
-    latch: &mut Latch<K>,
-)
+pub(crate) fn put_kept<K: Sink>(name: &[u8], kept: &Kept, latch: &mut Latch<K>)
     ensures { Goes K.Sink latch.old latch.new
         (kept_lines name.now (kept_seen kept.now)) }
 {
@@ -222,11 +199,7 @@ pub(crate) fn put_kept<K: Sink>(
 }
 
 /// Puts each of some boxes under a name.
-pub(crate) fn put_boxes<K: Sink>(
-    name: &[u8],
-    boxes: &[Kept],
-    latch: &mut Latch<K>,
-)
+pub(crate) fn put_boxes<K: Sink>(name: &[u8], boxes: &[Kept], latch: &mut Latch<K>)
     ensures { Goes K.Sink latch.old latch.new
         (flat_map (kept_lines name.now) (map kept_seen boxes.now)) }
 {

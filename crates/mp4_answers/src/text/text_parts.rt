@@ -10,10 +10,7 @@ pub(crate) const SPACE: &[u8] = b" ";
 pub(crate) const LINE_FEED: &[u8] = b"\n";
 
 /// Takes these parts of a text along.
-pub(crate) fn put_parts<K: Sink>(
-    parts: &[&[u8]],
-    latch: &mut Latch<K>,
-)
+pub(crate) fn put_parts<K: Sink>(parts: &[&[u8]], latch: &mut Latch<K>)
     ensures { Goes K.Sink latch.old latch.new
         (flat_map (λ part. part.now) parts.now) }
 {

@@ -26,7 +26,7 @@ abbrev pub trafs_coming : List ℕ → MovieSeen → ℕ → TrackInfo → ℕ �
 trafs_coming file m track info number due [] = []
 trafs_coming file m track info number due (traf ∷ trafs) =
     let here = samples_in (range file traf.at traf.len) traf.base info.id (trex_at m track) number
-        due (keys_seen info.keys) in
+    due (keys_seen info.keys) in
     here ++ trafs_coming file m track info (number + length here) (due + lasting here) trafs
 
 -- those behind what the walk has in hand

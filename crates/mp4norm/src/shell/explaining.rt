@@ -307,8 +307,8 @@ fn push_meaning(
 }
 
 /// Three lines on a fault of a file: the way to the named box, the clause of the standard that
-/// tells of it, and what the kind means, with what helps; and a fourth one where numbers go with the
-/// fault. Before them stands the name of the file, where it is given.
+/// tells of it, and what the kind means, with what helps; and a fourth one where numbers go with
+/// the fault. Before them stands the name of the file, where it is given.
 pub(crate) fn explanation(
     alloc: Global,
     name: Option<&str>,

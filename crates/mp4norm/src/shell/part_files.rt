@@ -4,7 +4,7 @@ ghost use Rattle.std.specs.Prelude.{◌≡◌, ◌++◌, IfOk, string_bytes, cod
 use crate::shell::reports::{Report, tell_name};
 use mp4_boxes::Refusal;
 use std::alloc::{AllocError, Global};
-use std::fs::{File, Metadata, OpenOptions, Permissions};
+use std::fs::{File, Metadata, OpenOptions, Permissions, TryLockError};
 use std::io::{ErrorKind, Read};
 use std::os::unix::fs::{MetadataExt, OpenOptionsExt, PermissionsExt, fchown};
 use std::{fs, io, process};
@@ -82,8 +82,12 @@ fn process_in(found: &str, beside: &str) -> Option<u32> {
     (process > 0 && number < MOST_NAMES).then_some(process)
 }
 
-// Whether the system says that no process has this number.
+// Whether the system says that no other process has this number. In a container each run may have
+// the same one.
 fn is_gone(rt: &HostRuntime, process: u32) -> bool {
+    if process == process::id(rt.process()) {
+        return true;
+    }
     let Ok(place) = format!(in rt.alloc(); "/proc/{process}") else {
         return false;
     };
@@ -102,8 +106,8 @@ fn is_made_alike(found: &Metadata, own: &Metadata) -> bool {
 
 // Takes away a file that an interrupted run left, if no process holds it: one that runs where its
 // number is another, as in a container, has it locked.
-fn take_leftover(rt: &HostRuntime, name: &str, own: &File) -> bool {
-    match (fs::symlink_metadata(rt, name), own.metadata()) {
+fn take_leftover(rt: &HostRuntime, name: &str, part: &PartFile) -> bool {
+    match (fs::symlink_metadata(rt, name), part.file.metadata()) {
         (Ok(found), Ok(own)) if is_made_alike(&found, &own) => {}
         _ => return false,
     }
@@ -114,8 +118,8 @@ fn take_leftover(rt: &HostRuntime, name: &str, own: &File) -> bool {
 }
 
 // Takes away the files that interrupted runs left beside one of this name, and says so; where more
-// words are asked for, also which stay. This run has made a file of its own.
-fn take_leftovers(rt: &HostRuntime, name: &str, own: &File, explains: bool) -> io::Result<()> {
+// words are asked for, also which stay. This run has made a part of its own.
+fn take_leftovers(rt: &HostRuntime, name: &str, part: &PartFile, explains: bool) -> io::Result<()> {
     let (folder, beside) = folder_of(name);
     for entry in fs::read_dir(rt, folder)? {
         let Ok(entry) = entry else {
@@ -125,7 +129,10 @@ fn take_leftovers(rt: &HostRuntime, name: &str, own: &File, explains: bool) -> i
         if process_in(found, beside).is_some_and(|process| is_gone(rt, process)) {
             let front = name.strip_suffix(beside).unwrap_or("");
             let left = format!(in rt.alloc(); "{front}{found}")?;
-            if take_leftover(rt, left.as_str(), own) {
+            if left == part.name {
+                continue;
+            }
+            if take_leftover(rt, left.as_str(), part) {
                 tell_name(rt, b"removed: ", left.as_str());
             } else if explains {
                 tell_name(rt, b"leftover: ", left.as_str());
@@ -153,7 +160,7 @@ impl PartFile {
         report: &mut Report,
     ) -> Result<PartFile, Refusal> {
         let part = PartFile::create(rt, beside, report)?;
-        let _ = take_leftovers(rt, beside, &part.file, report.explains());
+        let _ = take_leftovers(rt, beside, &part, report.explains());
         Ok(part)
     }
 
@@ -164,8 +171,11 @@ impl PartFile {
             let name = part_name(rt.alloc(), front.as_str(), number)?;
             match create(rt, name.as_str()) {
                 Ok(file) => {
-                    let _ = file.try_lock();
-                    return Ok(PartFile { file, name });
+                    // Another run may have taken it for one that was left, and be about to take it
+                    // away. Where there are no locks, none does.
+                    if !matches!(file.try_lock(), Err(TryLockError::WouldBlock)) {
+                        return Ok(PartFile { file, name });
+                    }
                 }
                 Err(error) if error.kind() == ErrorKind::AlreadyExists => {}
                 Err(error) => return report.outcome(Err(error), Refusal::WriteFailed),

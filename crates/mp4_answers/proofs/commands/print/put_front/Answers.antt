@@ -14,7 +14,7 @@ returns-in_err-close g c =
     let p = err_from_is_err_and c.from_residual.result c.from_residual.ensures.1 in
     let line : flat_map said_line (c.number.result ∷ []) ≡ number_line (codes "start") c.args.start = append-nil _ ∙ said_is c.number.result _ _ _ c.number.ensures.name c.number.ensures.said refl in
     let goes = goes_on g.K.Sink _ _ (goes_on g.K.Sink _ _ c.put_head.ensures (rw line at c.put_all_named.ensures)) c.put_heading.ensures in
-    rw (p.1, p.2) (tells_front g.K.Sink _ goes c.new-latch.ensures.begun c.in_err-close.ensures.err)
+    rw (p.1, p.2) (tells_front g.K.Sink _ goes refl c.in_err-close.ensures.err)
 
 pub returns : goal.returns
 returns g c =

@@ -1,4 +1,4 @@
-use Rattle.std.proofs.Common.{get_or, ℕ, List, length, take, map, refl, sym, ap, subst, ◌≡◌, ◌∙◌, ◌++◌, arith, drop}
+use Rattle.std.proofs.Common.{get_or, ℕ, List, length, take, map, refl, sym, ap, subst, ◌≡◌, ◌∙◌, ◌++◌, arith, drop, rules}
 use Rattle.std.proofs.lemmas.List.{length-take-le}
 use Rattle.std.specs.Prelude.{Some, slice_get}
 use Rattle.std.proofs.lemmas.Result.{err_from_is_err_and}
@@ -42,11 +42,16 @@ returns-in_err-close-clause-put g c told_honest tree o samples noted_are info is
     let whole = parts_are c.in-Some.head p c.sizes_of-sizes.result (keys_seen info.keys) told (map row_seen (take p.count samples)) noted front mdat bytes_there (c.as_bytes.ensures ∙ c.moof_front-front.ensures) c.sizes_of-sizes.ensures.is keys (ap (take p.count) c.deref.ensures.value
     ∙ noted_are.rows) (c.bytes.ensures ∙ c.header-mdat.ensures) in
     let goes = parts_go g.K.Sink front (run_rows p noted) (groups_bytes noted p told) mdat _ c.put.ensures c.carry_run.ensures (c.carry_groups.ensures.put (subst AreApart (sym keys) apart)) c.put-2.ensures refl in
-    let stop = goes.stops c.new-latch.ensures.begun c.in_err-close.ensures.err in
-    rw (e.1, c.in-Some.is) (stopped_first (g.K.Sink.takes c.args.sink.now c.put-2.new.self.sink.now) (waiting c.args.self.now.carrier) _ bytes_there _ stop.prefix (sym whole))
+    let stop = goes.stops refl c.in_err-close.ensures.err in
+    let same = goes.same.sink in
+    let back : c.sink-1.given.0 ≡ c.put-2.new.self.sink.now = search rules in
+    rw (e.1, c.in-Some.is, back) (stopped_first (g.K.Sink.takes c.args.sink.now c.put-2.new.self.sink.now) (waiting c.args.self.now.carrier) _ bytes_there _ stop.prefix (sym whole))
 
 pub returns-clause-put : goal.returns-clause-put
-returns-clause-put g c told_honest tree o samples noted_are info is apart =
+returns-clause-put g c =
+    let same = (parts_go g.K.Sink _ _ _ _ _ c.put.ensures c.carry_run.ensures c.carry_groups.ensures.some.2 c.put-2.ensures refl).same.sink in
+    let back : c.sink-1.given.0 ≡ c.put-2.new.self.sink.now = search rules in
+    λ told_honest tree o samples noted_are info is apart.
     let file = g.S.Store.file c.args.store.now in
     let p = c.args.noted.now.planned in
     let there = get_or c.tracks.result.now c.args.noted.now.track c.index-tracks-noted.result in
@@ -60,7 +65,7 @@ returns-clause-put g c told_honest tree o samples noted_are info is apart =
     ∙ noted_are.rows) (c.bytes.ensures ∙ c.header-mdat.ensures) in
     let goes = parts_go g.K.Sink front (run_rows p noted) (groups_bytes noted p told) mdat _ c.put.ensures c.carry_run.ensures (c.carry_groups.ensures.put (subst AreApart (sym keys) apart)) c.put-2.ensures refl in
     let here = noted_with file tree c.args.movie.now c.args.noted.now.track p.count samples c.args.self.now c.put-2.new.self.out.now noted_are in
-    let put = (goes.whole c.in_ok-close.ensures.ok).taken in
+    let put = rw (sym back) at (goes.whole c.in_ok-close.ensures.ok).taken in
     rw c.in-Some.is (on_both c.carry_data.result
     (λ x. BytesGoOn-then g.met.K.Sink.takes_on _ _ _ _ _ _ _ bytes_there _ put x (sym whole))
     (λ x. stopped_last g.met.K.Sink.takes_on _ _ _ _ _ _ bytes_there _ put x (sym whole))
@@ -84,7 +89,10 @@ returns-clause-many g c =
     let more = some_groups noted p groups.0 in
     let is : put_front q ≡ front ++ run ++ more ++ mdat = λ i. sym is_front i ++ run ++ more ++ sym is_mdat i in
     let goes = parts_go g.K.Sink front run more mdat _ c.put.ensures c.carry_run.ensures groups.2 c.put-2.ensures is in
-    on_ok _ _ c.carry_data.result (λ x. piece_follows q g.met.K.Sink.takes_on _ _ _ _ _ _ (goes.whole c.in_ok-close.ensures.ok).taken x) c.carry_data.ensures.many
+    let same = goes.same.sink in
+    let back : c.sink-1.given.0 ≡ c.put-2.new.self.sink.now = search rules in
+    let put = rw (sym back) at (goes.whole c.in_ok-close.ensures.ok).taken in
+    on_ok _ _ c.carry_data.result (λ x. piece_follows q g.met.K.Sink.takes_on _ _ _ _ _ _ put x) c.carry_data.ensures.many
 
 pub returns-clause-copied : goal.returns-clause-copied
 unfolding noted_with

@@ -40,8 +40,8 @@ returns-clause-added g c =
         i.first,
         i.is,
         rw w.into-is (rest_stays takes old w.add.new.self all rest
-        (more_handed takes old c.loop-sample.into w.add.new.self all hand (w.in-Some.sample ∷ []) rest i.added (split_first hand rest w.in-Some.sample w.in-Some.ensures.given c.next.ensures.rest) (w.add.new.self, (w.add.ensures, refl)))
-        (w.goes_on.ensures w.if-not-goes_on.true)),
+            (more_handed takes old c.loop-sample.into w.add.new.self all hand (w.in-Some.sample ∷ []) rest i.added (split_first hand rest w.in-Some.sample w.in-Some.ensures.given c.next.ensures.rest) (w.add.new.self, (w.add.ensures, refl)))
+            (w.goes_on.ensures w.if-not-goes_on.true)),
       )
       | in_default w ↦ (i.first, i.is, rw w.into-is (all_handed takes old c.loop-sample.into all hand i.added (no_first hand w.in_default.ensures.given)))
     ]
