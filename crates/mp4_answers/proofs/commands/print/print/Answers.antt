@@ -125,14 +125,14 @@ returns-in_err-put_tracks-clause-answer g c =
     let y = c.in_err-put_tracks.ensures in
     let r = run_of g.S.Store c.args.store.now c.put_tracks.new.store g.K.Sink sink new in
     let first = rw (c.in_ok-desk.ensures.text, c.as_slice-2.ensures.value, c.in_ok-front.ensures) at c.in_ok-carry.ensures.bytes in
-    let movie = subst (λ (x : MovieHead). BytesGoOn (g.K.Sink.takes c.carry.new.sink c.put_movie.new.sink) (waiting c.carry.new.self) (waiting c.put_movie.new.carrier) (movie_lines x))
+    let movie = subst (λ (x : MovieHead). BytesGoOn (g.K.Sink.takes c.carry.new.sink c.put_movie.new.sink) (waiting c.carry.new.self) (waiting c.put_movie.new.text) (movie_lines x))
     (rw c.when_told-words.ensures at c.in_ok-left.ensures.movie) c.in_ok-put_movie.ensures.all in
     let tracks = rw (f.honesty, f.file, e.honesty, e.file, c.as_slice-heads.ensures.value, c.when_told-words.ensures) at y.told in
     rw (p.1, p.2) (carry_fails (Unit {0}) r (PrintsText l file) (IsFaultTold l file) (LacksNamed l.track r.honest file) c.in_err-put_tracks.field-0.0 (rw (f.reads, e.reads, c.in_ok-put_movie.ensures.puts ∙ c.in_ok-carry.ensures.puts) at y.refusal)
     (λ told.
     let o = c.in_ok-movie.ensures.movie told in
     let t = tracks told o.0 o.1.opened (heads_remain l file m o.0 head o.1 says scales (are told o.0 o.1.opened) _ (rw c.when_told-words.ensures at c.in_ok-left.ensures.tracks)) in
-    tracks_fail l file m o.0 head o.1 says scales (are told o.0 o.1.opened) joins sink c.carry.new.sink c.put_movie.new.sink new new new nothing (waiting c.carry.new.self) (waiting c.put_movie.new.carrier) [] [] first movie t.lines.text.front)
+    tracks_fail l file m o.0 head o.1 says scales (are told o.0 o.1.opened) joins sink c.carry.new.sink c.put_movie.new.sink new new new nothing (waiting c.carry.new.self) (waiting c.put_movie.new.text) [] [] first movie t.lines.text.front)
     (λ told. let o = c.in_ok-movie.ensures.movie told in (tracks told o.0 o.1.opened (heads_remain l file m o.0 head o.1 says scales (are told o.0 o.1.opened) _ (rw c.when_told-words.ensures at c.in_ok-left.ensures.tracks))).lines.unchanged))
 
 pub returns-in_err-carry-2-clause-answer : goal.returns-in_err-carry-2-clause-answer
@@ -154,14 +154,14 @@ returns-in_err-carry-2-clause-answer g c =
     let y = c.in_ok-put_tracks.ensures in
     let r = run_of g.S.Store c.args.store.now c.put_tracks.new.store g.K.Sink sink new in
     let first = rw (c.in_ok-desk.ensures.text, c.as_slice-2.ensures.value, c.in_ok-front.ensures) at c.in_ok-carry.ensures.bytes in
-    let movie = subst (λ (x : MovieHead). BytesGoOn (g.K.Sink.takes c.carry.new.sink c.put_movie.new.sink) (waiting c.carry.new.self) (waiting c.put_movie.new.carrier) (movie_lines x))
+    let movie = subst (λ (x : MovieHead). BytesGoOn (g.K.Sink.takes c.carry.new.sink c.put_movie.new.sink) (waiting c.carry.new.self) (waiting c.put_movie.new.text) (movie_lines x))
     (rw c.when_told-words.ensures at c.in_ok-left.ensures.movie) c.in_ok-put_movie.ensures.all in
     let tracks = rw (f.honesty, f.file, e.honesty, e.file, c.as_slice-heads.ensures.value, c.when_told-words.ensures) at y.told in
     rw (p.1, p.2) (put_fails (Unit {0}) r (PrintsText l file) (IsFaultTold l file) (LacksNamed l.track r.honest file) c.in_err-carry-2.field-0.0 (rw (y.store.puts ∙ c.in_ok-put_movie.ensures.puts ∙ c.in_ok-carry.ensures.puts) at c.in_err-carry-2.ensures.refusal)
     (λ told.
     let o = c.in_ok-movie.ensures.movie told in
     let t = tracks told o.0 o.1.opened (heads_remain l file m o.0 head o.1 says scales (are told o.0 o.1.opened) _ (rw c.when_told-words.ensures at c.in_ok-left.ensures.tracks)) in
-    last_fails l file m o.0 head o.1 says scales (are told o.0 o.1.opened) joins sink c.carry.new.sink c.put_movie.new.sink c.put_tracks.new.sink new new nothing (waiting c.carry.new.self) (waiting c.put_movie.new.carrier) (waiting c.put_tracks.new.desk.text) [] first movie t.lines.text.all
+    last_fails l file m o.0 head o.1 says scales (are told o.0 o.1.opened) joins sink c.carry.new.sink c.put_movie.new.sink c.put_tracks.new.sink new new nothing (waiting c.carry.new.self) (waiting c.put_movie.new.text) (waiting c.put_tracks.new.desk.text) [] first movie t.lines.text.all
     c.in_err-carry-2.ensures.prefix))
 
 pub returns-clause-answer : goal.returns-clause-answer
@@ -182,7 +182,7 @@ returns-clause-answer g c =
     let y = c.in_ok-put_tracks.ensures in
     let r = run_of g.S.Store c.args.store.now c.put_tracks.new.store g.K.Sink sink new in
     let first = rw (c.in_ok-desk.ensures.text, c.as_slice-2.ensures.value, c.in_ok-front.ensures) at c.in_ok-carry.ensures.bytes in
-    let movie = subst (λ (x : MovieHead). BytesGoOn (g.K.Sink.takes c.carry.new.sink c.put_movie.new.sink) (waiting c.carry.new.self) (waiting c.put_movie.new.carrier) (movie_lines x))
+    let movie = subst (λ (x : MovieHead). BytesGoOn (g.K.Sink.takes c.carry.new.sink c.put_movie.new.sink) (waiting c.carry.new.self) (waiting c.put_movie.new.text) (movie_lines x))
     (rw c.when_told-words.ensures at c.in_ok-left.ensures.movie) c.in_ok-put_movie.ensures.all in
     let tracks = rw (f.honesty, f.file, e.honesty, e.file, c.as_slice-heads.ensures.value, c.when_told-words.ensures) at y.told in
     let same = c.in_ok-carry-2.ensures.puts ∙ y.store.puts ∙ c.in_ok-put_movie.ensures.puts ∙ c.in_ok-carry.ensures.puts in
@@ -191,7 +191,7 @@ returns-clause-answer g c =
     let o = c.in_ok-movie.ensures.movie told in
     let t = tracks told o.0 o.1.opened (heads_remain l file m o.0 head o.1 says scales (are told o.0 o.1.opened) _ (rw c.when_told-words.ensures at c.in_ok-left.ensures.tracks)) in
     on_ok _ _ c.flush.result
-    (λ put. all_printed l file m o.0 head o.1 says scales (are told o.0 o.1.opened) joins sink c.carry.new.sink c.put_movie.new.sink c.put_tracks.new.sink c.carry-2.new.sink new nothing (waiting c.carry.new.self) (waiting c.put_movie.new.carrier) (waiting c.put_tracks.new.desk.text)
+    (λ put. all_printed l file m o.0 head o.1 says scales (are told o.0 o.1.opened) joins sink c.carry.new.sink c.put_movie.new.sink c.put_tracks.new.sink c.carry-2.new.sink new nothing (waiting c.carry.new.self) (waiting c.put_movie.new.text) (waiting c.put_tracks.new.desk.text)
     (waiting c.carry-2.new.self)
     first movie t.lines.text.all c.in_ok-carry-2.ensures.bytes put)
     c.flush.ensures.bytes))
@@ -200,7 +200,7 @@ returns-clause-answer g c =
     let o = c.in_ok-movie.ensures.movie told in
     let t = tracks told o.0 o.1.opened (heads_remain l file m o.0 head o.1 says scales (are told o.0 o.1.opened) _ (rw c.when_told-words.ensures at c.in_ok-left.ensures.tracks)) in
     on_err _ _ c.flush.result
-    (λ put. end_fails l file m o.0 head o.1 says scales (are told o.0 o.1.opened) joins sink c.carry.new.sink c.put_movie.new.sink c.put_tracks.new.sink c.carry-2.new.sink new nothing (waiting c.carry.new.self) (waiting c.put_movie.new.carrier) (waiting c.put_tracks.new.desk.text)
+    (λ put. end_fails l file m o.0 head o.1 says scales (are told o.0 o.1.opened) joins sink c.carry.new.sink c.put_movie.new.sink c.put_tracks.new.sink c.carry-2.new.sink new nothing (waiting c.carry.new.self) (waiting c.put_movie.new.text) (waiting c.put_tracks.new.desk.text)
     (waiting c.carry-2.new.self)
     first movie t.lines.text.all c.in_ok-carry-2.ensures.bytes put)
     c.flush.ensures.prefix)
