@@ -195,7 +195,7 @@ class Box:
     """`depth` is the number of containers around it, `size` has its header in it. `foreign` says
     that the profile doesn't have the box there. `uuid` is the extended type of a `uuid` box.
     `fields`, where they are asked for and the profile reads the box, has what it says by the names
-    in the standard, as the objects of docs/OUTPUT.md have them."""
+    in the standard, as the objects of docs/FIELDS.md have them."""
 
     depth: int
     type: str
