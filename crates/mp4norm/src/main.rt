@@ -26,7 +26,7 @@ pub use mp4_answers::{
     text_laws, text_len, verdict_status, way_to,
 };
 use mp4_boxes::{Refusal, Steps};
-use mp4_store::{IoSink, Sink};
+use mp4_store::IoSink;
 use running::ended;
 pub use shell::action::{
     Action, CommandFault, ComparedInputs, Finding, Freeing, Input, Order, SumCheck, Target, Telling,
@@ -35,12 +35,11 @@ use shell::check_files::{Manner, check_all};
 pub use shell::command_line::action;
 use shell::descriptors::take_closed;
 use shell::file_names::{shown_word, word_of};
-use shell::reports::{NotedStream, Report};
+use shell::reports::Report;
 use shell::run_command::run;
 use shell::run_compare::compare_named;
-use shell::sum_checks::{Sought, check_sums, tell_new};
+use shell::sum_checks::{Sought, check_sums, put_noted, tell_new};
 use std::alloc::{AllocError, Global};
-use std::io;
 use std::io::{IsTerminal, Write};
 use std::marker::Brand;
 use std::process::ExitCode;
@@ -96,12 +95,6 @@ fn shown_fault(rt: &HostRuntime, words: &[String], fault: CommandFault) -> Comma
         },
         Err(_) => CommandFault::Memory,
     }
-}
-
-fn put_text(rt: &HostRuntime, text: &str, report: &mut Report) -> Result<(), Refusal> {
-    let out = &mut io::writer(rt);
-    IoSink::new(NotedStream { out, report }).put(text.as_bytes())?;
-    Ok(())
 }
 
 // Says what there is to say of an answer, and gives the status.
@@ -212,7 +205,7 @@ fn tell(rt: &HostRuntime, fault: CommandFault) -> ExitCode {
     match fault {
         CommandFault::Help(text) => {
             let mut report = Report::new(Telling::NOTHING);
-            let put = put_text(rt, text.as_str(), &mut report);
+            let put = put_noted(rt, text.as_str().as_bytes(), &mut report);
             end_heard(rt, put, &report)
         }
         CommandFault::Usage(text) | CommandFault::Shown(text) => {

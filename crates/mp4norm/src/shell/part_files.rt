@@ -45,7 +45,10 @@ fn name_of_process(alloc: Global, name: &str, process: u32) -> Result<String, Al
     ensures { IfOk result (λ text. string_bytes text
         ≡ name.now ++ codes ".mp4norm-part-" ++ decimal process) }
 {
-    format!(in alloc; "{name}.mp4norm-part-{process}")
+    let mut front = String::new(alloc);
+    front.push_str(name)?;
+    front.push_str(MARK)?;
+    format!(in alloc; "{front}{process}")
 }
 
 // The name of a new file beside another one: behind that of the process stands a count.

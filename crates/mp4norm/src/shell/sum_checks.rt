@@ -327,7 +327,7 @@ pub(crate) fn tell_new(
     if lines.is_empty() {
         return Ok(0);
     }
-    let put = put_lines(rt, lines.as_slice(), report);
+    let put = put_noted(rt, lines.as_slice(), report);
     if matches!(put, Err(Refusal::WriteFailed)) {
         report.tell_output(rt, "-");
     }
@@ -335,8 +335,12 @@ pub(crate) fn tell_new(
     Ok(DIFFER)
 }
 
-// Puts lines to standard output.
-fn put_lines(rt: &HostRuntime, lines: &[u8], report: &mut Report) -> Result<(), Refusal> {
+/// Puts lines to standard output.
+pub(crate) fn put_noted(
+    rt: &HostRuntime,
+    lines: &[u8],
+    report: &mut Report,
+) -> Result<(), Refusal> {
     let out = &mut rt.stdout();
     IoSink::new(NotedStream { out, report }).put(lines)?;
     Ok(())
