@@ -31,7 +31,7 @@ class Server:
         try:
             status = int(json.loads(answer)['status'])
         except (ValueError, TypeError, KeyError):
-            status = f'none: {self.ended() if answer == b"" else f"the server said {answer!r:.80}"}'
+            status = 'none: ' + (f'the server said {answer!r:.80}' if answer else self.ended())
             self.kill()
         return status, self.room.read('said'), self.room.read('put')
 
