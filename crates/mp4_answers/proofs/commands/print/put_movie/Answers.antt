@@ -1,4 +1,4 @@
-use Rattle.std.proofs.Common.{refl, rules, sym, ◌≡◌}
+use Rattle.std.proofs.Common.{refl, rules, ◌≡◌}
 use Rattle.std.proofs.lemmas.Result.{err_from_is_err_and}
 use Rattle.mp4_answers.proofs.Told.{tells_all, tells_front}
 use Rattle.mp4_answers.proofs.commands.print.put_movie.Goals as goal
