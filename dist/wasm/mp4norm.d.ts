@@ -10,8 +10,11 @@ export type Word = 'times' | 'edits' | 'flags' | 'groups' | 'metadata' | 'bitrat
     | 'origins' | 'labels' | 'timing' | 'roles' | 'ids' | 'timescales' | 'lead-ins' | 'packaging-1'
     | 'media-1' | 'packaging-2' | 'media-2';
 
-/** What is left out: names in a text with commas, or in a list; or flags of WORDS. */
-export type Words = string | readonly Word[] | number;
+/**
+ * What is left out: names in a text with commas, or in a list; or flags of WORDS. Of a text types check
+ * the first two names, of a list all; what isn't a name throws in either.
+ */
+export type Words = '' | Word | `${Word},${Word}` | `${Word},${Word},${string}` | readonly Word[] | number;
 
 export type Kind = 'ShortHeader' | 'BadSize' | 'Overrun' | 'ShortBox' | 'BoxNotInProfile'
     | 'DuplicateBox' | 'MissingBox' | 'BadVersion' | 'BadFlags' | 'BadValue' | 'OutsideData'

@@ -77,10 +77,15 @@ export function hasMemory64() {
  * @returns {Promise<Mp4Norm>}
  */
 export async function load(source) {
-    const name = hasMemory64() ? 'mp4norm.wasm' : 'mp4norm32.wasm';
-    const given = await bytesOfModule(source ?? new URL(name, import.meta.url));
+    const given = await bytesOfModule(source ?? besideThis());
     const made = await WebAssembly.instantiate(given, {});
     return new Mp4Norm((made.instance ?? made).exports);
+}
+
+// Where the module is that this engine can run. Bundlers find files by URLs that stand there literally.
+function besideThis() {
+    return hasMemory64() ? new URL('./mp4norm.wasm', import.meta.url)
+        : new URL('./mp4norm32.wasm', import.meta.url);
 }
 
 async function bytesOfModule(source) {
