@@ -25,7 +25,7 @@ from fractions import Fraction
 
 import trials
 from scripts import script
-from suite import scales
+from suite import differ, scales
 from suite.boxes import Box
 from suite.movies import whole
 from suite.stored import PLAIN, bytes_of, names
@@ -36,9 +36,8 @@ HERE = os.path.dirname(os.path.abspath(__file__))
 # Seconds that a wrapper has for the table.
 LIMIT = 300
 KIND = re.compile(r'refused: (\w+) in (.{4}|[0-9a-f]{8}) at (\d+)\n', re.S)
-WORDS = ('', 'times', 'edits,ends', 'packaging-1', 'media-1', 'packaging-2', 'media-2', 'flags',
-         'groups', 'metadata', 'bitrates', 'origins', 'labels', 'timing', 'roles', 'ids',
-         'timescales', 'lead-ins')
+FIRST = '', 'times', 'edits,ends'
+WORDS = *FIRST, *differ.SETS, *(word for word in differ.WORDS if word not in ','.join(FIRST).split(','))
 ROWS = (0, 2, 2 ** 32 - 1)
 FORMS = {'plain': [], 'named': ['--header'], 'json': ['--json']}
 SYNTAXES = {'lines': [], 'json': ['--json']}
