@@ -19,7 +19,6 @@ pub mod SampleGroups
 pub mod PlannerSteps
 pub mod Gatherings
 pub mod Vectors
-pub mod SuiteVectors
 pub mod WrittenGroups
 pub mod WrittenRun
 mod PieceCarried
