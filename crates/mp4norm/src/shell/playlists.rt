@@ -80,9 +80,6 @@ impl Playlist {
         if self.has_map {
             return Ok(Some("a second map"));
         }
-        if !self.names.is_empty() {
-            return Ok(Some("a map behind a segment"));
-        }
         match reference_of_map(attributes) {
             Err(odd) => Ok(Some(odd)),
             Ok(uri) => {
