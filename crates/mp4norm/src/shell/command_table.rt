@@ -285,7 +285,7 @@ fn print_command<'a>(alloc: Global) -> Result<Command<'a>, AllocError> {
     let command = of_file(
         alloc,
         "print",
-        "Prints the content of a file as text for version control: a line for each value and sample",
+        "Prints a file's content as text for version control: a line for each value and sample",
         "Example: mp4norm print movie.mp4 --without times > movie.txt",
     )?;
     let command = command.arg(without_arg(alloc))?.arg(alone_arg(alloc))?;
@@ -319,7 +319,7 @@ fn strip_command<'a>(alloc: Global) -> Result<Command<'a>, AllocError> {
         alloc,
         "strip",
         "Copies a file, and changes some of its boxes to free space",
-        "Examples: mp4norm strip movie.mp4 --foreign --out stripped.mp4\n          mp4norm strip movie.mp4 --drop uuid,minf/hdlr --out stripped.mp4",
+        "Example: mp4norm strip movie.mp4 --drop uuid,minf/hdlr --out stripped.mp4",
     )?;
     let command = command
         .arg(flag(alloc, "foreign", FOREIGN))?
@@ -361,9 +361,7 @@ fn sum_command<'a>(alloc: Global) -> Result<Command<'a>, AllocError> {
         "The MP4 files to sum; - for standard input, @LIST for a list of files",
     );
     let command = Command::new(alloc, "sum")
-        .about(
-            "Prints the SHA-256 of each file's normal form as sha256sum does, or checks such a list",
-        )
+        .about("Prints the SHA-256 of each normal form, as sha256sum does, or checks such a list")
         .after_help("Example: mp4norm sum *.mp4 --without times > sums; mp4norm sum --check sums")
         .arg(files.required_unless_present("check")?)?
         .arg(without_arg(alloc))?
