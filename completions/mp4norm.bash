@@ -1,6 +1,6 @@
 # Completion of mp4norm for bash.
 
-# Words of a list with commas, of which none is offered twice; what stands before the last comma stays.
+# Words of a list with commas, each offered once; what is before the last comma stays.
 _mp4norm_list() {
     local before='' word
     [[ $current != *,* ]] || before=${current%,*},
@@ -10,7 +10,7 @@ _mp4norm_list() {
     compopt -o nospace 2>/dev/null
 }
 
-# Files behind an @, which stand for those that they name.
+# Files after an @: lists of files.
 _mp4norm_at() {
     local file
     while read -r file; do
@@ -28,7 +28,7 @@ _mp4norm() {
     COMPREPLY=()
     for word in "${COMP_WORDS[@]:1:COMP_CWORD-1}"; do
         case $word in
-        normalise | normalize | show | samples | extract | boxes | strip | compare | check | sum | print | help)
+        compare | check | sum | normalise | normalize | print | show | samples | extract | boxes | strip | help)
             command=$word
             break
             ;;
@@ -38,7 +38,7 @@ _mp4norm() {
     [ "$previous" != = ] || previous=${COMP_WORDS[COMP_CWORD - 2]}
     case $previous in
     --without)
-        _mp4norm_list times edits flags groups metadata bitrates ends origins labels timing roles ids timescales lead-ins packaging-1 media-1 packaging-2 media-2
+        _mp4norm_list packaging-2 media-2 packaging-1 media-1 times edits flags groups metadata bitrates ends origins labels timing roles ids timescales lead-ins
         return
         ;;
     --track | --drop | --limit | --rows | --max-bytes | --max-parts)
@@ -48,20 +48,20 @@ _mp4norm() {
     -o | --out | --names-from | --check) return ;;
     esac
     case $command in
-    '') words='normalise show samples extract boxes strip compare check sum print help --help --version' ;;
-    normalise | normalize) words='--out --track --without --foreign --lossy --max-bytes --max-parts --replace --progress --explain --brief --help' ;;
+    '') words='compare check sum normalise print show samples extract boxes strip help --help --version' ;;
+    compare) words='--without --all --align --limit --track --foreign --lossy --json --max-parts --explain --brief --help' ;;
+    check) words='--foreign --lossy --names-from --zero --json --max-parts --explain --brief --help' ;;
+    sum) words='--without --check --quiet --summary --new --foreign --lossy --track --no-header --bytes --names-from --zero --json --max-parts --explain --brief --help' ;;
+    normalise | normalize) words='--out --without --track --foreign --lossy --replace --max-bytes --progress --max-parts --explain --brief --help' ;;
+    print) words='--without --track --foreign --lossy --out --replace --max-parts --explain --brief --help' ;;
     show) words='--max-parts --explain --brief --help' ;;
     samples) words='--track --header --json --max-parts --explain --brief --help' ;;
-    extract) words='--track --out --max-bytes --max-parts --replace --progress --explain --brief --help' ;;
+    extract) words='--track --out --replace --max-bytes --progress --max-parts --explain --brief --help' ;;
     boxes) words='--json --fields --rows --max-parts --explain --brief --help' ;;
-    strip) words='--foreign --lossy --drop --out --max-bytes --max-parts --replace --progress --explain --brief --help' ;;
-    compare) words='--track --without --foreign --lossy --all --align --limit --json --max-parts --explain --brief --help' ;;
-    check) words='--names-from --zero --foreign --lossy --json --max-parts --explain --brief --help' ;;
-    sum) words='--names-from --track --without --foreign --lossy --zero --json --no-header --bytes --check --quiet --summary --new --max-parts --explain --brief --help' ;;
-    print) words='--track --without --foreign --lossy --out --replace --max-parts --explain --brief --help' ;;
-    help) words='normalise show samples extract boxes strip compare check sum print' ;;
+    strip) words='--foreign --lossy --drop --out --replace --max-bytes --progress --max-parts --explain --brief --help' ;;
+    help) words='compare check sum normalise print show samples extract boxes strip' ;;
     esac
-    # Behind a command that reads a file, words without a dash are files: bash completes them by itself.
+    # After a command that reads a file, words without a dash are files: bash completes them by itself.
     if [[ -z $command || $command = help || $current = -* ]]; then
         mapfile -t COMPREPLY < <(compgen -W "$words" -- "$current")
     elif [[ $current = @* ]]; then

@@ -30,6 +30,13 @@ def names() -> list[str]:
     return sorted(name.removesuffix('.mp4') for name in found)
 
 
+def media() -> dict[str, str | None]:
+    """The files of coded media, by name: the line that refuses each, which was worked out by hand."""
+    refused = json.loads(bytes_of('coded', 'refused.json'))
+    found = os.listdir(os.path.join(FOLDER, 'coded'))
+    return {name: refused.get(name) for name in sorted(it[:-4] for it in found if it.endswith('.mp4'))}
+
+
 def cases() -> list[dict]:
     """The cases of cases.json."""
     return json.loads(bytes_of('.', 'cases.json'))

@@ -9,17 +9,17 @@ const TROUBLES = {
     changed: 'The file changed while it was read, or can\u2019t be read any more. Choose it again.',
     memory:
         'The browser gave this page no memory for it. Close other tabs, or use the program'
-        + ' mp4norm, which reads files by place.',
+        + ' mp4norm, which reads files by offset.',
     large:
         'The file is larger than a page can hold, which is 3.6 GB. The program mp4norm reads it'
-        + ' by place.',
+        + ' by offset.',
     cancelled: 'Stopped, as you wished.',
 };
 
 /** What a trouble is, for people. */
 export function troubled(trouble) {
     if (trouble.kind === 'refused')
-        return `With this left out it has no normal form: ${trouble.said}`;
+        return `With these categories ignored it has no normal form: ${trouble.said}`;
     return TROUBLES[trouble.kind]
         ?? `Something went wrong here: ${trouble.said}. Choose the file again.`;
 }
@@ -151,7 +151,7 @@ function faultCard(name, slot, facts, acts) {
             slot.numbers ? entry('numbers', slot.numbers) : null),
         dump(slot),
         slot.boxes.length
-            ? element('p', { className: 'row' }, button('Show the place', () => acts.place(name)))
+            ? element('p', { className: 'row' }, button('Show the box', () => acts.place(name)))
             : null);
 }
 
@@ -168,7 +168,7 @@ function editsTold(track, scale) {
         const time = timed(Number(lasts) / scale);
         const rate = whole + part / 65536;
         const speed = rate === 1 ? '' : ` at rate ${Number(rate.toFixed(3))}`;
-        return Number(media) < 0 ? `${time} of nothing`
+        return Number(media) < 0 ? `${time} empty`
                                  : `${time} from ${timed(Number(media) / track.timescale)}${speed}`;
     }).join(', then ');
 }
@@ -276,6 +276,6 @@ export function drawDownloads(facts, acts) {
         card, element('h2', {}, 'Download'),
         element(
             'p', { className: 'quiet' },
-            words.length ? `Without ${words.join(', ')}.` : 'Nothing is left out.'),
+            words.length ? `Without ${words.join(', ')}.` : 'Nothing is ignored.'),
         ...accepted.map(row));
 }

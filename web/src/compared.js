@@ -10,13 +10,13 @@ const STEP = 200;
 // What stands under the verdict.
 function under(told, facts) {
     const words = wordList(facts);
-    const left = words.length ? `Left out: ${words.join(', ')}. ` : '';
+    const left = words.length ? `Ignored: ${words.join(', ')}. ` : '';
     if (!told.same) return left;
     const { a, b } = state.slots;
     const isOne =
         a.name === b.name && a.size === b.size && a.file.lastModified === b.file.lastModified;
     const bytes = told.alike ? 'Their bytes are the same, too.'
-                             : 'Their bytes differ: they say the same in other ways.';
+                             : 'Their bytes differ: they encode the same content in other ways.';
     return `${left}${isOne && told.alike ? 'They seem to be one file, chosen twice. ' : ''}${
         bytes}`;
 }
@@ -24,12 +24,12 @@ function under(told, facts) {
 // With which words left out the two are the same.
 function hint(told, facts, acts) {
     if (told.same) return null;
-    if (!told.words) return element('p', {}, 'No words of those above make them the same.');
+    if (!told.words) return element('p', {}, 'No categories make them the same.');
     const more = told.words.filter(word => !state.words.has(word));
     return element(
         'p', { className: 'row' }, `They are the same without ${wordsTold(told.words)}.`,
         button(
-            `Leave ${more.length === 1 ? 'this' : 'these'} out`, () => acts.leaveOut(told.words)));
+            `Ignore ${more.length === 1 ? 'this' : 'these'}`, () => acts.leaveOut(told.words)));
 }
 
 function wordsTold(words) {
@@ -94,7 +94,7 @@ export function drawComparison(facts, acts) {
     const card = one('#comparison'), { a, b } = state.slots;
     card.hidden = !(a && b);
     if (card.hidden) return;
-    const head = element('h2', { data: { key: `${a.key} ${b.key}` } }, 'Do they say the same?');
+    const head = element('h2', { data: { key: `${a.key} ${b.key}` } }, 'Do they have the same content?');
     const said = text => fill(card, head, element('p', { className: 'quiet' }, text));
     const told = state.comparison;
     if (told?.trouble)
@@ -110,7 +110,7 @@ export function drawComparison(facts, acts) {
         fill(
             card, head,
             element(
-                'p', { className: 'quiet' }, 'Samples lie over one another, so it takes a while. '),
+                'p', { className: 'quiet' }, 'Samples overlap, so it takes a while. '),
             button('Compare', acts.compare));
     } else said('Comparing\u2026');
 }

@@ -47,7 +47,7 @@ export function shownFields(fields) {
         pairs.flatMap(
             ([name, value]) => [element('dt', {}, name), element('dd', {}, spelled(value))]));
     const rows = fields.rows ?? [];
-    const more = fields.more_rows ? `${grouped(fields.more_rows)} more rows` : '';
+    const more = fields.more_rows ? `${grouped(fields.more_rows)} more entries` : '';
     return [
         list, rows.length > 0 && table(rows), more && element('p', { className: 'more' }, more)
     ];

@@ -10,7 +10,7 @@ const HANDLERS = {
     sbtl: 'subtitles',
     hint: 'hints',
     meta: 'metadata',
-    pict: 'pictures',
+    pict: 'images',
     auxv: 'auxiliary video',
     tmcd: 'time code',
     clcp: 'captions',
@@ -102,7 +102,7 @@ export function lanesBefore(found) {
         const lane = laneOf(track, k, found.timescale, track.columns, track, []);
         const seconds = time => time / track.timescale, { gap } = found;
         const [due, there] = gap ? [gap.due, gap.found].map(seconds) : [lane.ends, lane.ends];
-        const said = gap ? `due ${timed(due)}, found ${timed(there)}` : found.said;
+        const said = gap ? `expected ${timed(due)}, found ${timed(there)}` : found.said;
         const from = Math.min(due, there), to = Math.max(due, there);
         if (k === found.place) lane.fault = { from, to, said };
         return lane;

@@ -193,7 +193,7 @@ function editRow(lane, scene, top) {
             if (right - left < 0.5) return '';
             const isEmpty = edit.media === null;
             const text = isEmpty
-                ? 'nothing'
+                ? 'empty'
                 : `from ${timed(edit.media)}${edit.rate === 1 ? '' : `, rate ${edit.rate}`}`;
             const label = right - left < 40 ? '' : fitted(text, right - left - 8, 10);
             const look = isEmpty ? { fill: `url(#hatch${scene.suffix})`, class: 'edit empty' }
@@ -326,11 +326,11 @@ function entries(lanes, scene) {
                 'differs'
             ],
         has(lane => lane.pieces.length) &&
-            [stroke({ stroke: colours.piece, 'stroke-width': 1.2 }), 'fragment of the file'],
+            [stroke({ stroke: colours.piece, 'stroke-width': 1.2 }), 'movie fragment of the file'],
         has(lane => lane.cuts?.length) &&
             [
                 stroke({ stroke: colours.cut, 'stroke-width': 1.5, 'stroke-dasharray': '3 3' }),
-                'piece of the normal form'
+                'movie fragment of the normal form'
             ],
         has(lane => lane.fault) && [square(colours.differs), 'fault'],
         has(lane => unshown(lane).some(([from, to]) => from < view.to && to > view.from)
@@ -386,6 +386,6 @@ export function described(lane, k) {
         sized(samples.size[k]),
         isSync(samples.flags[k]) ? 'sync sample' : 'not a sync sample',
         `flags ${samples.flags[k].toString(16).padStart(8, '0')}`,
-        `description ${samples.description[k]}`,
+        `sample entry ${samples.description[k]}`,
     ];
 }

@@ -23,7 +23,7 @@ export class Pane {
             { least, draw, point, key, from: 0, to: 1, all: [0, 1], edge: 0, touches: new Map() });
         this.host = element(
             'div',
-            { className: 'picture', tabIndex: 0, aria: { label, roledescription: 'picture' } });
+            { className: 'picture', tabIndex: 0, aria: { label, roledescription: 'drawing' } });
         this.host.setAttribute('role', 'application');
         this.listen();
         new ResizeObserver(() => this.refresh()).observe(this.host);
@@ -169,5 +169,5 @@ export function tools(pane, save) {
         made('\u2212', 'Zoom out', () => pane.act('farther'), { label: 'Zoom out' }),
         made('+', 'Zoom in', () => pane.act('closer'), { label: 'Zoom in' }),
         made('All', 'Show all', () => pane.act('all')),
-        made('Save SVG', 'Save the picture as SVG', save));
+        made('Save SVG', 'Save the drawing as SVG', save));
 }

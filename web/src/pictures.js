@@ -41,7 +41,7 @@ export class TimePicture {
         this.told = element('div', { className: 'readout', role: 'status' });
         this.note = element('p', { className: 'quiet' });
         this.hint =
-            'Point at a sample. Wheel or fingers zoom once the picture is chosen; drag to move.';
+            'Point at a sample. Wheel or fingers zoom once the drawing is chosen; drag to move.';
     }
 
     /** Draws the card anew, for the files that are there. */
@@ -62,7 +62,7 @@ export class TimePicture {
             shown.filter(slot => slot.show && slot.show.tracks.length > lanesOfSlot(slot).length);
         this.note.textContent =
             shown.filter(slot => slot.before)
-                .map(slot => `${slot.name}: by times of decoding, up to the fault.`)
+                .map(slot => `${slot.name}: by decode times, up to the fault.`)
                 .concat(few.map(
                     slot =>
                         `Of ${slot.name} the first ${lanesOfSlot(slot).length} tracks are drawn.`))
@@ -184,7 +184,7 @@ export class BoxPicture {
                              && (box.type === verdict.type || box.isBroken))
                                           : -1;
         this.pane = new Pane({
-            label: `Boxes of ${slot.name} by place. Arrow keys move, plus and minus zoom, 0 shows`
+            label: `Boxes of ${slot.name} by offset. Arrow keys move, plus and minus zoom, 0 shows`
                 + ' all, comma and point go from box to box.',
             least: 16,
             draw: view => this.draw(view),

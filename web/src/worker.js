@@ -127,7 +127,7 @@ async function lanes(held, boxes, tell) {
         samples.flatMap(
             it => Object.values(it).filter(column => column.buffer).map(column => column.buffer)));
     if (isShort(show, held.file.size)) {
-        tell({ part: 'step', text: 'Looking for the pieces of the normal form' });
+        tell({ part: 'step', text: 'Finding the movie fragments of the normal form' });
         tell({ part: 'cuts', cuts: cutsOf(lib, held.open.normalise()) });
     }
 }

@@ -72,7 +72,7 @@ pub(crate) fn value_of<'a>(
         let (own, rest) = first_attribute(left).ok_or(NO_ATTRIBUTES)?;
         if own.name == name {
             if found.is_some() {
-                return Err("an attribute stands twice");
+                return Err("an attribute is there twice");
             }
             found = Some(own);
         }

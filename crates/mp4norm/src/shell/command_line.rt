@@ -75,9 +75,9 @@ each type is four printable characters or eight hexadecimal digits, and not free
 UUID; before a slash only a container whose boxes are listed may stand";
 
 const WITHOUT_RULE: &str = "\
-each word is times, edits, flags, groups, metadata, bitrates, ends, origins, labels, timing, \
-roles, ids, timescales or lead-ins, or a set of these: packaging-1, media-1, packaging-2 or \
-media-2";
+each word is a set, packaging-2, media-2, packaging-1 or media-1, or a category: times, edits, \
+flags, groups, metadata, bitrates, ends, origins, labels, timing, roles, ids, timescales or \
+lead-ins";
 
 const TRACK_RULE: &str = "\
 one ID of a track is wanted, from 1 to 4294967295; only compare takes two, as A:B";

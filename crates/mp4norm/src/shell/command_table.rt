@@ -6,86 +6,97 @@ use std::alloc::{AllocError, Global};
 /// The program's version, and the number of the normal form.
 const VERSION: &str = "0.3.0, normal form 1";
 
-/// What stands behind the help of the whole program.
+/// What follows the help of the whole program.
 const AFTER_HELP: &str = "\
-With no words it lists the boxes of standard input. A FILE that is named - is standard input, \
-read whole.
+A FILE that is named - is standard input, read whole into memory. @LIST stands for the files that \
+LIST names, read one after the other as one file. Without arguments mp4norm lists the boxes of \
+standard input.
 
 Columns of samples: number decode_time composition_time duration flags description size
 
 Status:
   0   all is done
-  1   refused: the file has a fault; its kind, box and place are named
+  1   refused: the file has a fault; its kind, box and offset are named
   2   failed: memory
   3   failed: store, failed: store changed, failed: write
   4   failed: no such track
   5   compare: the files differ; sum --check: a sum does, or a name is new
   64  the arguments are invalid
 
-Example: mp4norm normalise movie.mp4 --out normal.mp4";
+Examples:
+  mp4norm compare source.mp4 packaged.mp4 --without packaging-2
+  mp4norm check *.mp4
+  mp4norm sum *.mp4 > sums
+  mp4norm normalise movie.mp4 --out normal.mp4
+  mp4norm print movie.mp4 > movie.txt
+  mp4norm show movie.mp4
+  mp4norm samples movie.mp4 --track 1
+  mp4norm extract movie.mp4 --track 1 --out video.bin
+  mp4norm boxes movie.mp4 --fields
+  mp4norm strip movie.mp4 --foreign --out stripped.mp4";
 
-// What the words that are there or not ask for.
+// The help of options.
 const EXPLAIN: &str = "\
-Say more of what is wrong: of a fault the box, the clause and the meaning, of a failure the \
-file and the cause";
+Explain a refusal by its box path, clause and meaning, and a failure by its file and cause";
 
-const BRIEF: &str = "Say no more than one line of a failure, on a terminal too";
+const BRIEF: &str = "Print only one line for a refusal or a failure, on a terminal too";
 
 const REPLACE: &str = "\
-Replace NEW, and only once all is written: by a new file beside it, \
-NEW.mp4norm-part-..";
+Replace NEW once the whole answer is written, to a new file beside it: NEW.mp4norm-part-..";
 
 const WITHOUT: &str = "\
-What to leave out, words apart by commas: times, edits, flags, groups, metadata, \
-bitrates, ends, origins, labels, timing, roles, ids, timescales, lead-ins; or a set of these: \
-packaging-1 for the first eight, media-1 for the first ten, packaging-2 or media-2, which keep \
-how long each track waits";
+Ignore sets or categories of content, separated by commas. Sets: packaging-2 for what packagers \
+change, media-2 for that and names for people; packaging-1 and media-1 ignore the audio/video \
+offset too. Categories: times, edits, flags, groups, metadata, bitrates, ends, origins, labels, \
+timing, roles, ids, timescales, lead-ins";
 
-const TRACK: &str = "Take the track of this ID, from 1, as if the file had no other";
+const TRACK: &str = "Take only the track with this ID, as if the file had no other";
 
 const TRACKS: &str = "\
 Compare a track of A with one of B, by their IDs, each as if its file had no other: 1:2";
 
-const PROGRESS: &str = "Say on standard error how far it has come, in percent and MB/s";
+const PROGRESS: &str = "Show progress on standard error, in percent and MB/s";
 
 const HEADER: &str = "Begin with a line of the names of the columns";
 
-const JSON: &str = "Answer with objects of JSON, each in a line of its own";
+const JSON: &str = "Print JSON objects, one on each line";
 
-const FOREIGN: &str = "All boxes that the profile refuses where they stand, as --drop for each";
+const FOREIGN: &str = "Change all boxes that aren't in the profile where they are";
 
 const LOSSY: &str = "\
-With --foreign: make NEW also where what is lost is needed to play or to tell what samples say";
+With --foreign: write NEW even if a box is lost that players need or that describes samples";
 
 const READ_FOREIGN: &str = "\
-Read boxes that the profile refuses as free space, as in the copy that strip --foreign makes";
+Read boxes that aren't in the profile as free space, as in the copy that strip --foreign makes";
 
 const READ_LOSSY: &str = "\
-With --foreign: answer also where what is lost is needed to play or to tell what samples say";
+With --foreign: answer even if a box is lost that players need or that describes samples";
 
-const ZERO: &str = "End each line with a zero byte in place of a line feed";
+const ZERO: &str = "End each line with a zero byte instead of a line feed, and don't escape names";
 
-const NO_HEADER: &str = "Print no line before all others that says of what the sums are";
+const NO_HEADER: &str = "Print no first line, which says what the sums are of";
 
-const QUIET: &str = "With --check: say nothing of files that have their sum";
+const QUIET: &str = "With --check: print nothing for files that have their sum";
 
-const FIELDS: &str = "Show the fields of each box under it, by their names in ISO/IEC 14496-12";
+const FIELDS: &str = "\
+Show the fields of each box after its line, by their names in ISO/IEC 14496-12";
 
-const SUMMARY: &str = "With --check: count at the end, on standard error, how files came out";
+const SUMMARY: &str = "\
+With --check: print at the end, on standard error, how many files have their sum";
 
 const BYTES: &str = "\
-Print of each refused file, behind all others and a line that says so, the SHA-256 of its bytes";
+After all other lines, print one that says so and the SHA-256 of the bytes of each refused file";
 
 const NEW: &str = "\
-With --check: open no file, and print the names of those FILEs that LIST has not";
+With --check: open no file, and print the names among FILEs that LIST doesn't have";
 
-const ALL: &str = "List all differences, and count them, in place of the first alone";
+const ALL: &str = "Print all differences, not only the first, and how many there are";
 
 const ALIGN: &str = "\
-The same, but say first how tracks lie beside each other whose samples are not the same, and list
-samples only of tracks that have the same number of them in both files";
+The same, and first where the samples of two tracks begin to differ and agree again; samples are \
+listed only of tracks that have the same number of them in both files";
 
-// A word that is there or not.
+// An option without a value.
 fn flag<'a>(alloc: Global, name: &'a str, help: &'a str) -> Arg<'a> {
     Arg::new(alloc, name)
         .long(name)
@@ -96,7 +107,7 @@ fn flag<'a>(alloc: Global, name: &'a str, help: &'a str) -> Arg<'a> {
 fn file_arg<'a>(alloc: Global) -> Arg<'a> {
     Arg::new(alloc, "file")
         .value_name("FILE")
-        .help("The MP4 file to read, or - for standard input")
+        .help("The MP4 file, - for standard input, or @LIST for a list of files")
         .required(true)
         .action(ArgAction::Set)
 }
@@ -135,7 +146,7 @@ fn out_arg<'a>(alloc: Global) -> Arg<'a> {
         .short('o')
         .value_name("NEW")
         .help(
-            "The file to make, or - for standard output; it must not be there, but with --replace",
+            "The file to write, or - for standard output; it must not exist, except with --replace",
         )
         .required(true)
         .action(ArgAction::Set)
@@ -145,7 +156,7 @@ fn most_arg<'a>(alloc: Global) -> Arg<'a> {
     Arg::new(alloc, "max-bytes")
         .long("max-bytes")
         .value_name("N")
-        .help("Write nothing where the answer has more than N bytes")
+        .help("Write nothing if the answer has more than N bytes")
         .action(ArgAction::Set)
         .value_parser(value_parser!(u64))
 }
@@ -155,7 +166,7 @@ fn parts_arg<'a>(alloc: Global) -> Arg<'a> {
     Arg::new(alloc, "max-parts")
         .long("max-parts")
         .value_name("N")
-        .help("Take a list of at most N files; 100000 where it isn't given")
+        .help("Read lists of at most N files; 100000 if it isn't given")
         .action(ArgAction::Set)
         .value_parser(value_parser!(u64))
 }
@@ -191,24 +202,24 @@ fn of_file<'a>(
     about: &'a str,
     example: &'a str,
 ) -> Result<Command<'a>, AllocError> {
-    let command = Command::new(alloc, name)
+    Command::new(alloc, name)
         .about(about)
         .after_help(example)
-        .arg(file_arg(alloc))?;
-    with_reading(command, alloc)
+        .arg(file_arg(alloc))
 }
 
 fn boxes_command<'a>(alloc: Global) -> Result<Command<'a>, AllocError> {
     let command = of_file(
         alloc,
         "boxes",
-        "Lists the boxes of a file: two spaces for each container, type, place, size",
-        "Example: mp4norm boxes movie.mp4",
+        "Lists the boxes of a file, indented by container: type, offset, size",
+        "Example: mp4norm boxes movie.mp4 --fields",
     )?;
-    command
+    let command = command
         .arg(flag(alloc, "json", JSON))?
         .arg(flag(alloc, "fields", FIELDS))?
-        .arg(rows_arg(alloc))
+        .arg(rows_arg(alloc))?;
+    with_reading(command, alloc)
 }
 
 // How many rows of a box are shown.
@@ -216,18 +227,19 @@ fn rows_arg<'a>(alloc: Global) -> Arg<'a> {
     Arg::new(alloc, "rows")
         .long("rows")
         .value_name("N")
-        .help("How many rows of a box to show at most with --fields; 16 where it isn't given")
+        .help("With --fields: show at most N entries of a table; 16 if it isn't given")
         .action(ArgAction::Set)
         .value_parser(value_parser!(u64))
 }
 
 fn show_command<'a>(alloc: Global) -> Result<Command<'a>, AllocError> {
-    of_file(
+    let command = of_file(
         alloc,
         "show",
-        "Shows a movie and its tracks as one line of JSON",
+        "Prints the movie and its tracks as one line of JSON",
         "Example: mp4norm show movie.mp4",
-    )
+    )?;
+    with_reading(command, alloc)
 }
 
 fn samples_command<'a>(alloc: Global) -> Result<Command<'a>, AllocError> {
@@ -238,10 +250,11 @@ fn samples_command<'a>(alloc: Global) -> Result<Command<'a>, AllocError> {
          description, size",
         "Example: mp4norm samples movie.mp4 --track 1",
     )?;
-    command
+    let command = command
         .arg(track_arg(alloc))?
         .arg(flag(alloc, "header", HEADER))?
-        .arg(flag(alloc, "json", JSON))
+        .arg(flag(alloc, "json", JSON))?;
+    with_reading(command, alloc)
 }
 
 fn extract_command<'a>(alloc: Global) -> Result<Command<'a>, AllocError> {
@@ -251,7 +264,7 @@ fn extract_command<'a>(alloc: Global) -> Result<Command<'a>, AllocError> {
         "Writes the bytes of a track's samples, one after the other",
         "Example: mp4norm extract movie.mp4 --track 1 --out video.bin",
     )?;
-    with_out(command.arg(track_arg(alloc))?, alloc)
+    with_reading(with_out(command.arg(track_arg(alloc))?, alloc)?, alloc)
 }
 
 fn normalise_command<'a>(alloc: Global) -> Result<Command<'a>, AllocError> {
@@ -263,22 +276,23 @@ fn normalise_command<'a>(alloc: Global) -> Result<Command<'a>, AllocError> {
     )?;
     let command = command
         .alias("normalize")?
-        .arg(alone_arg(alloc))?
-        .arg(without_arg(alloc))?;
-    with_out(with_foreign(command, alloc)?, alloc)
+        .arg(without_arg(alloc))?
+        .arg(alone_arg(alloc))?;
+    with_reading(with_out(with_foreign(command, alloc)?, alloc)?, alloc)
 }
 
 fn print_command<'a>(alloc: Global) -> Result<Command<'a>, AllocError> {
     let command = of_file(
         alloc,
         "print",
-        "Prints what a file says as text, for version control: a line for each value and sample",
+        "Prints a file's content as text for version control: a line for each value and sample",
         "Example: mp4norm print movie.mp4 --without times > movie.txt",
     )?;
-    let command = command.arg(alone_arg(alloc))?.arg(without_arg(alloc))?;
-    with_foreign(command, alloc)?
+    let command = command.arg(without_arg(alloc))?.arg(alone_arg(alloc))?;
+    let command = with_foreign(command, alloc)?
         .arg(out_arg(alloc).required(false))?
-        .arg(flag(alloc, "replace", REPLACE))
+        .arg(flag(alloc, "replace", REPLACE))?;
+    with_reading(command, alloc)
 }
 
 fn without_arg<'a>(alloc: Global) -> Arg<'a> {
@@ -294,8 +308,8 @@ fn drop_arg<'a>(alloc: Global) -> Arg<'a> {
         .long("drop")
         .value_name("TYPES")
         .help(
-            "The types of the boxes, apart by commas; moov/uuid means those in a moov alone, \
-             uuid:be7acfcb-97a9-42e8-9c71-999491e3afac the uuid boxes that begin so",
+            "Change boxes of these types, separated by commas; moov/uuid means those in a moov \
+             only, uuid:be7acfcb-97a9-42e8-9c71-999491e3afac the uuid boxes with this UUID",
         )
         .action(ArgAction::Set)
 }
@@ -304,20 +318,20 @@ fn strip_command<'a>(alloc: Global) -> Result<Command<'a>, AllocError> {
     let command = of_file(
         alloc,
         "strip",
-        "Copies a file, and makes boxes of some types free space",
+        "Copies a file, and changes some of its boxes to free space",
         "Example: mp4norm strip movie.mp4 --drop uuid,minf/hdlr --out stripped.mp4",
     )?;
     let command = command
-        .arg(drop_arg(alloc))?
         .arg(flag(alloc, "foreign", FOREIGN))?
-        .arg(flag(alloc, "lossy", LOSSY))?;
-    with_out(command, alloc)
+        .arg(flag(alloc, "lossy", LOSSY))?
+        .arg(drop_arg(alloc))?;
+    with_reading(with_out(command, alloc)?, alloc)
 }
 
 fn files_arg<'a>(alloc: Global) -> Result<Arg<'a>, AllocError> {
     Arg::new(alloc, "file")
         .value_name("FILE")
-        .help("The MP4 files to judge, or - for standard input")
+        .help("The MP4 files to check; - for standard input, @LIST for a list of files")
         .num_args(1..)
         .action(ArgAction::Append)
         .required_unless_present("names-from")
@@ -327,13 +341,13 @@ fn list_arg<'a>(alloc: Global) -> Arg<'a> {
     Arg::new(alloc, "names-from")
         .long("names-from")
         .value_name("LIST")
-        .help("A file of further names, each ended by a zero byte, or - for standard input")
+        .help("A file of more names, each ended by a zero byte, or - for standard input")
         .action(ArgAction::Set)
 }
 
 fn check_command<'a>(alloc: Global) -> Result<Command<'a>, AllocError> {
     let command = Command::new(alloc, "check")
-        .about("Says of each file whether it has a normal form, a line each")
+        .about("Prints for each file whether it is accepted, or why it is refused")
         .after_help("Example: mp4norm check *.mp4")
         .arg(files_arg(alloc)?)?
         .arg(list_arg(alloc))?
@@ -343,42 +357,44 @@ fn check_command<'a>(alloc: Global) -> Result<Command<'a>, AllocError> {
 }
 
 fn sum_command<'a>(alloc: Global) -> Result<Command<'a>, AllocError> {
-    let files = files_arg(alloc)?.help("The MP4 files to sum, or - for standard input");
+    let files = files_arg(alloc)?.help(
+        "The MP4 files to sum; - for standard input, @LIST for a list of files",
+    );
     let command = Command::new(alloc, "sum")
-        .about("Prints the SHA-256 of each file's normal form, as sha256sum does")
-        .after_help("Example: mp4norm sum *.mp4 --without times > list; mp4norm sum --check list")
+        .about("Prints the SHA-256 of each normal form, as sha256sum does, or checks such a list")
+        .after_help("Example: mp4norm sum *.mp4 --without times > sums; mp4norm sum --check sums")
         .arg(files.required_unless_present("check")?)?
-        .arg(list_arg(alloc))?
-        .arg(alone_arg(alloc))?
         .arg(without_arg(alloc))?
-        .arg(flag(alloc, "zero", ZERO))?;
-    sum_flags(command, alloc)
-}
-
-fn sum_flags<'a>(command: Command<'a>, alloc: Global) -> Result<Command<'a>, AllocError> {
-    let command = command
-        .arg(flag(alloc, "json", JSON))?
-        .arg(flag(alloc, "no-header", NO_HEADER))?
-        .arg(flag(alloc, "bytes", BYTES))?
         .arg(checked_arg(alloc))?
         .arg(flag(alloc, "quiet", QUIET))?
         .arg(flag(alloc, "summary", SUMMARY))?
         .arg(flag(alloc, "new", NEW))?;
-    with_reading(with_foreign(command, alloc)?, alloc)
+    sum_flags(command, alloc)
+}
+
+fn sum_flags<'a>(command: Command<'a>, alloc: Global) -> Result<Command<'a>, AllocError> {
+    let command = with_foreign(command, alloc)?
+        .arg(alone_arg(alloc))?
+        .arg(flag(alloc, "no-header", NO_HEADER))?
+        .arg(flag(alloc, "bytes", BYTES))?
+        .arg(list_arg(alloc))?
+        .arg(flag(alloc, "zero", ZERO))?
+        .arg(flag(alloc, "json", JSON))?;
+    with_reading(command, alloc)
 }
 
 fn checked_arg<'a>(alloc: Global) -> Arg<'a> {
     Arg::new(alloc, "check")
         .long("check")
         .value_name("LIST")
-        .help("Say of each file that LIST names whether it has the sum that stands there")
+        .help("Check whether each file that LIST names has the sum given there")
         .action(ArgAction::Set)
 }
 
 fn side_arg<'a>(alloc: Global, name: &'a str, shown: &'a str) -> Arg<'a> {
     Arg::new(alloc, name)
         .value_name(shown)
-        .help("An MP4 file to compare, or - for standard input")
+        .help("An MP4 file, - for standard input, or @LIST for a list of files")
         .required(true)
         .action(ArgAction::Set)
 }
@@ -387,31 +403,29 @@ fn limit_arg<'a>(alloc: Global) -> Arg<'a> {
     Arg::new(alloc, "limit")
         .long("limit")
         .value_name("N")
-        .help(
-            "How many differences to list at most with --all and --align; 100 where it isn't given",
-        )
+        .help("With --all or --align: list at most N differences; 100 if it isn't given")
         .action(ArgAction::Set)
         .value_parser(value_parser!(u32))
 }
 
 fn compare_command<'a>(alloc: Global) -> Result<Command<'a>, AllocError> {
     let command = Command::new(alloc, "compare")
-        .about("Says whether two files say the same, and names the first difference")
-        .after_help("Example: mp4norm compare one.mp4 other.mp4 --without times,metadata")
+        .about("Compares the content of two files, and prints the first difference")
+        .after_help("Example: mp4norm compare source.mp4 packaged.mp4 --without packaging-2")
         .arg(side_arg(alloc, "left", "A"))?
         .arg(side_arg(alloc, "right", "B"))?
-        .arg(tracks_arg(alloc))?
         .arg(without_arg(alloc))?
         .arg(flag(alloc, "all", ALL))?
         .arg(flag(alloc, "align", ALIGN))?
         .arg(limit_arg(alloc))?
+        .arg(tracks_arg(alloc))?
         .arg(flag(alloc, "json", JSON))?;
     with_reading(with_foreign(command, alloc)?, alloc)
 }
 
 fn top_command<'a>(alloc: Global) -> Result<Command<'a>, AllocError> {
     Command::new(alloc, "mp4norm")
-        .about("Rewrites MP4 files in one normal form, and shows what they hold")
+        .about("Compares MP4 files by their content, and writes each in one normal form")
         .after_help(AFTER_HELP)
         .version(VERSION)
         .no_binary_name(true)
@@ -422,14 +436,14 @@ fn top_command<'a>(alloc: Global) -> Result<Command<'a>, AllocError> {
 /// All commands, their words and their help.
 pub(crate) fn whole_command<'a>(alloc: Global) -> Result<Command<'a>, AllocError> {
     top_command(alloc)?
-        .subcommand(boxes_command(alloc)?)?
-        .subcommand(show_command(alloc)?)?
-        .subcommand(samples_command(alloc)?)?
-        .subcommand(extract_command(alloc)?)?
-        .subcommand(normalise_command(alloc)?)?
-        .subcommand(print_command(alloc)?)?
         .subcommand(compare_command(alloc)?)?
         .subcommand(check_command(alloc)?)?
         .subcommand(sum_command(alloc)?)?
+        .subcommand(normalise_command(alloc)?)?
+        .subcommand(print_command(alloc)?)?
+        .subcommand(show_command(alloc)?)?
+        .subcommand(samples_command(alloc)?)?
+        .subcommand(extract_command(alloc)?)?
+        .subcommand(boxes_command(alloc)?)?
         .subcommand(strip_command(alloc)?)
 }

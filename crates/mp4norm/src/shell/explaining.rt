@@ -118,32 +118,32 @@ fn begins_with_box<S: Store>(store: &mut S) -> Result<bool, Refusal>
 // What a fault means.
 fn meaning_of(fault: &Fault) -> &'static str {
     match fault.kind {
-        Kind::ShortHeader => "a box is due, and its header is cut short",
+        Kind::ShortHeader => "a box must follow, and its header is cut short",
         Kind::BadSize => "the size is smaller than the header, or is 0 inside a container",
-        Kind::Overrun => "the box ends behind its container",
-        Kind::ShortBox => "the box has no room for its fields or rows",
+        Kind::Overrun => "the box ends beyond its container",
+        Kind::ShortBox => "the box has no room for its fields or entries",
         Kind::BoxNotInProfile => "the profile has no such box there",
         Kind::DuplicateBox => "the box is one too many",
-        Kind::MissingBox => "the container lacks a box that the profile wants",
+        Kind::MissingBox => "the container lacks a box that the profile requires",
         Kind::BadVersion => "the box has a version that the profile does not have",
         Kind::BadFlags => "the box has flags that the profile does not have",
         Kind::BadValue => "a field has a value that is not allowed",
-        Kind::OutsideData => "only one data reference is taken, a url that means this file",
-        Kind::CountMismatch => "the table counts other than the samples are",
-        Kind::BadOrder => "rows do not rise, or do not begin at 1",
-        Kind::BadDescriptionIndex => "a sample has no description",
-        Kind::SampleOutsideFile => "a sample does not lie in the file",
-        Kind::UnknownTrack => "the fragment is of a track that the movie does not have",
-        Kind::Gap => "the fragment begins at another time than is due",
+        Kind::OutsideData => "only one data reference is accepted, a url that means this file",
+        Kind::CountMismatch => "the counts of the table differ from the number of samples",
+        Kind::BadOrder => "entries do not rise, or do not begin at 1",
+        Kind::BadDescriptionIndex => "a sample has no sample entry",
+        Kind::SampleOutsideFile => "a sample is not inside the file",
+        Kind::UnknownTrack => "the track fragment is of a track that the movie does not have",
+        Kind::Gap => "the track fragment does not begin at the time where the one before it ends",
         Kind::OffsetTooLarge if fault.box_type == *b"tkhd" =>
-            "without the origin of the track an offset does not fit 32 bits",
-        Kind::OffsetTooLarge => "a table of version 0 has an offset of 2^31 or more",
+            "without its origin the track has a composition offset that does not fit 32 bits",
+        Kind::OffsetTooLarge => "a table of version 0 has a composition offset of 2^31 or more",
         Kind::ItemLocation =>
-            "a kept box holds the letters iloc, and so may name places in the file",
+            "a box carried unread holds the letters iloc, and so may name offsets in the file",
         Kind::TooManySamples => "with this box there are more than 2^24 samples",
-        Kind::TimeTooLarge => "the track ends, or is, too long for its times",
+        Kind::TimeTooLarge => "the track is too long, or ends too late, for its times",
         Kind::MovieTooLarge => "the normal form would have a moov of more than 2^30 bytes",
-        Kind::FragmentBeforeMovie => "no moov stands before the fragment",
+        Kind::FragmentBeforeMovie => "no moov comes before the movie fragment",
     }
 }
 

@@ -16,8 +16,7 @@ pub struct ListFault {
 pub(crate) const MOST_PARTS: u64 = 100_000;
 
 /// What is wrong with the line behind those that are taken.
-pub(crate) const TOO_MANY: &str =
-    "more files than --max-parts allows (100000 where it isn't given)";
+pub(crate) const TOO_MANY: &str = "more files than --max-parts allows (100000 if it isn't given)";
 
 /// The bytes of a byte order mark in UTF-8.
 const MARK: &[u8] = b"\xef\xbb\xbf";

@@ -13,7 +13,7 @@ const REFUSED: [(&[u8], &str); 6] = [
     ),
     (b"#EXT-X-STREAM-INF", "it names playlists, and no media"),
     (b"#EXT-X-PART", "it has partial segments"),
-    (b"#EXT-X-SKIP", "segments are left out"),
+    (b"#EXT-X-SKIP", "segments are skipped"),
     (b"#EXT-X-GAP", "a segment is missing"),
     (
         b"#EXT-X-I-FRAMES-ONLY",
@@ -80,9 +80,6 @@ impl Playlist {
         if self.has_map {
             return Ok(Some("a second map"));
         }
-        if !self.names.is_empty() {
-            return Ok(Some("a map behind a segment"));
-        }
         match reference_of_map(attributes) {
             Err(odd) => Ok(Some(odd)),
             Ok(uri) => {
@@ -115,7 +112,7 @@ impl Playlist {
         match line.first() {
             None => Ok(None),
             Some(b'#') => self.tag(alloc, line),
-            Some(_) if !self.has_map => { Ok(Some("no EXT-X-MAP stands before the first segment")) }
+            Some(_) if !self.has_map => { Ok(Some("no EXT-X-MAP comes before the first segment")) }
             Some(_) => self.add(alloc, line),
         }
     }

@@ -63,7 +63,7 @@ fn odd_of_name(name: &[u8]) -> Option<&'static str> {
     let mut parts = name.split(|byte| *byte == b'/');
     parts
         .any(|part| part == b"..".as_slice())
-        .then_some("the URI names a file behind ..")
+        .then_some("the URI names a file above its folder, by ..")
 }
 
 // The bytes that a text spells, in which `%XX` is the byte with these digits.
