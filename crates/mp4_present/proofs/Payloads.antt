@@ -21,15 +21,6 @@ use Rattle.mp4_present.proofs.TopLevel.{read_there}
 abbrev pub Begins : List ℕ → ℕ → ℕ → Type 0
 Begins file at most = (h : Header) × (header_at true (drop at file) ≡ Ok h) × (h.size ≤ most)
 
--- a read that failed is why there is no box
-pub refuses_top_box : (room at : ℕ) (honest : Bool) (file : List ℕ) (reads reads_after : ℕ) (r : Refusal) → RefusesFront reads reads_after r → RefusesTopBox room at honest file reads reads_after r
-refuses_top_box room at honest file reads reads_after (refusals.Fault f) h = absurd h
-refuses_top_box room at honest file reads reads_after refusals.Memory h = absurd h
-refuses_top_box room at honest file reads reads_after refusals.StoreFailed h = h
-refuses_top_box room at honest file reads reads_after refusals.StoreChanged h = absurd h
-refuses_top_box room at honest file reads reads_after refusals.WriteFailed h = absurd h
-refuses_top_box room at honest file reads reads_after refusals.NoSuchTrack h = absurd h
-
 both : (r : Result Header Kind) (k : Kind) (h : Header) → r ≡ Err k → r ≡ Ok h → ⊥
 both r k h e f = cc
 
