@@ -1,5 +1,5 @@
 -- Boxes of the file itself, read to a room.
-use Rattle.std.proofs.Common.{◌≡◌, ℕ, ◌+◌, ◌-◌, ◌<◌, ◌≤◌, true, Bool, List, ◌++◌, length, take, drop, Ok, Err, sym, ap, subst, ◌∙◌, arith, length-drop}
+use Rattle.std.proofs.Common.{◌≡◌, ℕ, ◌+◌, ◌-◌, ◌<◌, ◌≤◌, true, List, ◌++◌, length, take, drop, Ok, Err, sym, ap, subst, ◌∙◌, arith, length-drop}
 use Rattle.std.specs.Prelude.{codes, Result}
 use Rattle.std.proofs.Math.Seq.{take-add}
 use Rattle.std.proofs.lemmas.List.{drop-drop, take-take}
@@ -11,10 +11,8 @@ use Rattle.mp4_boxes.specs.format.BoxFaults.{header_there, type_of}
 use Rattle.mp4_boxes.specs.declared.fault.Fault.{Fault}
 use Rattle.mp4_boxes.specs.declared.fault.Kind.{Kind}
 use Rattle.mp4_boxes.specs.declared.headers.TopHeader.{TopHeader}
-use Rattle.mp4_boxes.specs.declared.refusal.Refusal.{Refusal}
-use Rattle.mp4_boxes.specs.declared.refusal.Refusal.TheVariants as refusals
 use Rattle.mp4_boxes.proofs.Walking.{located_err}
-use Rattle.mp4_present.specs.words.Reading.{IsTopHeader, RefusesFront, RefusesTopBox}
+use Rattle.mp4_present.specs.words.Reading.{IsTopHeader}
 use Rattle.mp4_present.proofs.TopLevel.{read_there}
 
 -- a box of at most so many bytes begins at a place of the file

@@ -1,4 +1,4 @@
-use Rattle.std.proofs.Common.{◌≡◌, ◌-◌, rules, min, length, drop, map, refl, sym, subst, ◌∙◌, arith}
+use Rattle.std.proofs.Common.{◌≡◌, ◌-◌, ◌++◌, rules, min, length, drop, map, refl, sym, subst, ◌∙◌, arith}
 use Rattle.std.specs.Prelude.{IsTrue, codes}
 use Rattle.mp4_boxes.specs.format.Children.{of_kind}
 use Rattle.std.proofs.lemmas.Result.{err_from_is_err_and}
@@ -9,7 +9,7 @@ use Rattle.mp4_present.proofs.TrafsNoted.{owns_first, owns_next, all_noted}
 use Rattle.mp4_present.proofs.FaultGaps.{not_read, unread_faultless}
 use Rattle.mp4_present.specs.words.Passing.{IsNextMoof}
 use Rattle.mp4_present.proofs.GapsTold.{tells_refused, untold}
-use Rattle.mp4_present.proofs.MoofsPassed.{IsRead, read_is, stands_next, under_way_first, all_passed, next_passed}
+use Rattle.mp4_present.proofs.MoofsPassed.{read_is, stands_next, under_way_first, all_passed, next_passed}
 use Rattle.mp4_present.proofs.MoofsJudged.{judged_first, judged_next, judged_refused, all_judged, unread_judged}
 use Rattle.mp4_boxes.specs.words.View.{box_seen}
 use Rattle.mp4_present.proofs.ChecksCounted.{steps_first, next_checked, checks_all, checks_done}
@@ -81,6 +81,7 @@ loop-at-preserved g c =
     let coming = λ (told : IsTrue (g.S.Store.is_honest c.args.store.now)). coming items k c.loop-at-test.true file at _ top c.in_ok-top.ensures.place (i.to_come told) (i.left told) i.begin ((rw (i.honesty, i.file) at c.in_ok-top.ensures.header) told) whole in
     let bytes = drop top.header.header c.read_top_box.new.room in
     let len = top.header.end - top.offset - top.header.header in
+    let read = λ (told : IsTrue (g.S.Store.is_honest c.args.store.now)). read_from_header file top (box_seen c.view_in-moof.result) c.read_top_box.new.room c.in_ok-top.ensures.whole.1 c.in_ok-top.ensures.room ((rw (i.honesty, i.file) at c.in_ok-top.ensures.bytes) told) c.view_in-moof.ensures in
     let many : length c.loop-at.states ≡ length c.args.states.now = search rules in
     let same = told_both c.loop-at.tracks c.check_moof_by.new.tracking (λ owns now. length now ≡ length owns) i.told c.if-tracks.false c.in_ok-check_moof_by.ensures.own.each in
     let each = sym (length-map c.check_moof_by.new.tracking.own.items own_seen) ∙ same ∙ length-map c.loop-at.tracks.own.items own_seen ∙ i.each in (
@@ -98,13 +99,13 @@ loop-at-preserved g c =
         left = λ told. let l = i.left told in (left_next file _ _ top l whole ((coming told).0 l.boxes l.are_from)).left;
         so = λ told movie boxes b.
             let u = i.so told movie boxes b in
-            let r : IsRead file top (box_seen c.view_in-moof.result) bytes len = read_from_header file top (box_seen c.view_in-moof.result) c.read_top_box.new.room c.in_ok-top.ensures.whole.1 c.in_ok-top.ensures.room ((rw (i.honesty, i.file) at c.in_ok-top.ensures.bytes) told) c.view_in-moof.ensures in
+            let r = read told in
             next_passed file movie boxes at c.args.start.outline.now.longest c.args.states.now c.loop-at.states c.args.start.room c.loop-at.room b u top whole ((coming told).0 u.left.boxes u.left.are_from)
             (box_seen c.view_in-moof.result) bytes len c.len-file_len.result r c.len-file_len.ensures
             c.check_moof_by.new.tracks c.check_moof_by.new.room c.in_ok-check_moof_by.ensures.sound.0 c.in_ok-check_moof_by.ensures.sound.1;
         first = λ told movie boxes b.
             let u = i.first told movie boxes b in
-            let r : IsRead file top (box_seen c.view_in-moof.result) bytes len = read_from_header file top (box_seen c.view_in-moof.result) c.read_top_box.new.room c.in_ok-top.ensures.whole.1 c.in_ok-top.ensures.room ((rw (i.honesty, i.file) at c.in_ok-top.ensures.bytes) told) c.view_in-moof.ensures in
+            let r = read told in
             judged_next file movie boxes at c.args.start.outline.now.longest c.args.states.now c.loop-at.states c.args.start.room c.loop-at.room b u top whole ((coming told).0 u.0.left.boxes u.0.left.are_from)
             (box_seen c.view_in-moof.result) bytes len c.len-file_len.result r c.len-file_len.ensures
             c.check_moof_by.new.tracks c.check_moof_by.new.room c.in_ok-check_moof_by.ensures.sound.0 c.in_ok-check_moof_by.ensures.sound.1 c.in_ok-check_moof_by.ensures.exact.names;
@@ -115,7 +116,7 @@ loop-at-preserved g c =
         places = rw c.in_ok-check_moof_by.ensures.accepted.1.kept.ids (c.check_moof_by.ensures.knows _ i.places);
         own = λ told movie boxes b own.
             let u = i.own told movie boxes b own in
-            let r : IsRead file top (box_seen c.view_in-moof.result) bytes len = read_from_header file top (box_seen c.view_in-moof.result) c.read_top_box.new.room c.in_ok-top.ensures.whole.1 c.in_ok-top.ensures.room ((rw (i.honesty, i.file) at c.in_ok-top.ensures.bytes) told) c.view_in-moof.ensures in
+            let r = read told in
             owns_next file movie boxes at c.args.start.outline.now.longest c.args.states.now c.loop-at.states c.args.start.room c.loop-at.room (map own_seen c.loop-at.tracks.own.items) b u top whole ((coming told).0 u.0.left.boxes u.0.left.are_from)
             (box_seen c.view_in-moof.result) bytes len c.len-file_len.result r c.len-file_len.ensures
             c.check_moof_by.new.tracks c.check_moof_by.new.room (map own_seen c.check_moof_by.new.tracking.own.items) c.in_ok-check_moof_by.ensures.sound.0 c.in_ok-check_moof_by.ensures.sound.1
@@ -123,21 +124,21 @@ loop-at-preserved g c =
             (c.in_ok-check_moof_by.ensures.own.all trexes defaults apart) (length-map c.loop-at.tracks.own.items own_seen ∙ i.each ∙ sym many));
         work = λ told all h.
             let u = i.work told all h in
-            let r : IsRead file top (box_seen c.view_in-moof.result) bytes len = read_from_header file top (box_seen c.view_in-moof.result) c.read_top_box.new.room c.in_ok-top.ensures.whole.1 c.in_ok-top.ensures.room ((rw (i.honesty, i.file) at c.in_ok-top.ensures.bytes) told) c.view_in-moof.ensures in
+            let r = read told in
             let e = c.in_ok-check_moof_by.ensures in
             next_checked file at top all whole u.0 u.1.0 ((coming told).0 u.0 u.1.0) (box_seen c.view_in-moof.result) bytes len r
             _ _ _ (checked_all _ _ _ _ _ _ _ (box_seen c.view_in-moof.result) refl e.sound.1 e.work.cost) u.1.1;
         looked = λ told all h.
             let u = i.looked told all h in
-            let r : IsRead file top (box_seen c.view_in-moof.result) bytes len = read_from_header file top (box_seen c.view_in-moof.result) c.read_top_box.new.room c.in_ok-top.ensures.whole.1 c.in_ok-top.ensures.room ((rw (i.honesty, i.file) at c.in_ok-top.ensures.bytes) told) c.view_in-moof.ensures in
+            let r = read told in
             next_looked file at top all whole u.0 u.1.0 ((coming told).0 u.0 u.1.0) (box_seen c.view_in-moof.result) bytes len r
             (min 1 (length c.args.states.now)) _ _ _ (rw many at c.in_ok-check_moof_by.ensures.looks.each) u.1.1;
         looks = λ told.
-            let r : IsRead file top (box_seen c.view_in-moof.result) bytes len = read_from_header file top (box_seen c.view_in-moof.result) c.read_top_box.new.room c.in_ok-top.ensures.whole.1 c.in_ok-top.ensures.room ((rw (i.honesty, i.file) at c.in_ok-top.ensures.bytes) told) c.view_in-moof.ensures in
+            let r = read told in
             next_looks file at top whole (let l = i.left told in stands_behind file at top l.boxes ((coming told).0 l.boxes l.are_from)) (box_seen c.view_in-moof.result) bytes len r
             (min 1 (length c.args.states.now)) _ _ _ (rw many at c.check_moof_by.ensures.looks.most) (i.looks told);
         fit = λ told.
-            let r : IsRead file top (box_seen c.view_in-moof.result) bytes len = read_from_header file top (box_seen c.view_in-moof.result) c.read_top_box.new.room c.in_ok-top.ensures.whole.1 c.in_ok-top.ensures.room ((rw (i.honesty, i.file) at c.in_ok-top.ensures.bytes) told) c.view_in-moof.ensures in
+            let r = read told in
             next_fits file at top whole (let l = i.left told in stands_behind file at top l.boxes ((coming told).0 l.boxes l.are_from)) (box_seen c.view_in-moof.result) bytes len r _ _ _ _ _ c.in_ok-check_moof_by.ensures.work.within (i.fit told);
       },
     )
@@ -195,10 +196,11 @@ returns-in_err-check_moof_by-clause-work g c =
     let coming = λ (told : IsTrue (g.S.Store.is_honest c.args.store.now)). coming items k c.loop-at-test.true file at _ top c.in_ok-top.ensures.place (i.to_come told) (i.left told) i.begin ((rw (i.honesty, i.file) at c.in_ok-top.ensures.header) told) whole in
     let bytes = drop top.header.header c.read_top_box.new.room in
     let len = top.header.end - top.offset - top.header.header in
+    let read = λ (told : IsTrue (g.S.Store.is_honest c.args.store.now)). read_from_header file top (box_seen c.view_in-moof.result) c.read_top_box.new.room c.in_ok-top.ensures.whole.1 c.in_ok-top.ensures.room ((rw (i.honesty, i.file) at c.in_ok-top.ensures.bytes) told) c.view_in-moof.ensures in
     let many : length c.loop-at.states ≡ length c.args.states.now = search rules in
     let moof = box_seen c.view_in-moof.result in
     rw (p.1, p.2) (λ told.
-    let r : IsRead file top moof bytes len = read_from_header file top moof c.read_top_box.new.room c.in_ok-top.ensures.whole.1 c.in_ok-top.ensures.room ((rw (i.honesty, i.file) at c.in_ok-top.ensures.bytes) told) c.view_in-moof.ensures in
+    let r = read told in
     let stands = let l = i.left told in stands_behind file at top l.boxes ((coming told).0 l.boxes l.are_from) in (
       record {
         work = tt;
@@ -223,11 +225,12 @@ returns-then-tracks-clause-work g c =
     let coming = λ (told : IsTrue (g.S.Store.is_honest c.args.store.now)). coming items k c.loop-at-test.true file at _ top c.in_ok-top.ensures.place (i.to_come told) (i.left told) i.begin ((rw (i.honesty, i.file) at c.in_ok-top.ensures.header) told) whole in
     let bytes = drop top.header.header c.read_top_box.new.room in
     let len = top.header.end - top.offset - top.header.header in
+    let read = λ (told : IsTrue (g.S.Store.is_honest c.args.store.now)). read_from_header file top (box_seen c.view_in-moof.result) c.read_top_box.new.room c.in_ok-top.ensures.whole.1 c.in_ok-top.ensures.room ((rw (i.honesty, i.file) at c.in_ok-top.ensures.bytes) told) c.view_in-moof.ensures in
     let many : length c.loop-at.states ≡ length c.args.states.now = search rules in
     let moof = box_seen c.view_in-moof.result in
     let e = c.in_ok-check_moof_by.ensures in
     λ told.
-    let r : IsRead file top moof bytes len = read_from_header file top moof c.read_top_box.new.room c.in_ok-top.ensures.whole.1 c.in_ok-top.ensures.room ((rw (i.honesty, i.file) at c.in_ok-top.ensures.bytes) told) c.view_in-moof.ensures in
+    let r = read told in
     let stands = let l = i.left told in stands_behind file at top l.boxes ((coming told).0 l.boxes l.are_from) in (
       record {
         work = checks_done file top.header.end _ _ (λ all h.
@@ -266,10 +269,11 @@ returns-in_err-check_moof_by-clause-exact g c =
     let coming = λ (told : IsTrue (g.S.Store.is_honest c.args.store.now)). coming items k c.loop-at-test.true file at _ top c.in_ok-top.ensures.place (i.to_come told) (i.left told) i.begin ((rw (i.honesty, i.file) at c.in_ok-top.ensures.header) told) whole in
     let bytes = drop top.header.header c.read_top_box.new.room in
     let len = top.header.end - top.offset - top.header.header in
+    let read = λ (told : IsTrue (g.S.Store.is_honest c.args.store.now)). read_from_header file top (box_seen c.view_in-moof.result) c.read_top_box.new.room c.in_ok-top.ensures.whole.1 c.in_ok-top.ensures.room ((rw (i.honesty, i.file) at c.in_ok-top.ensures.bytes) told) c.view_in-moof.ensures in
     rw (p.1, p.2) (λ told. record {
       names = λ movie boxes b.
           let u = i.first told movie boxes b in
-          let r : IsRead file top (box_seen c.view_in-moof.result) bytes len = read_from_header file top (box_seen c.view_in-moof.result) c.read_top_box.new.room c.in_ok-top.ensures.whole.1 c.in_ok-top.ensures.room ((rw (i.honesty, i.file) at c.in_ok-top.ensures.bytes) told) c.view_in-moof.ensures in
+          let r = read told in
           judged_refused file movie boxes at c.args.start.outline.now.longest c.args.states.now c.loop-at.states c.args.start.room c.loop-at.room b u top whole ((coming told).0 u.0.left.boxes u.0.left.are_from)
           (box_seen c.view_in-moof.result) bytes len c.len-file_len.result r c.len-file_len.ensures
           c.in_err-check_moof_by.field-0.0
@@ -306,15 +310,16 @@ returns-in_err-check_moof_by-clause-told g c =
     let coming = λ (told : IsTrue (g.S.Store.is_honest c.args.store.now)). coming items k c.loop-at-test.true file at _ top c.in_ok-top.ensures.place (i.to_come told) (i.left told) i.begin ((rw (i.honesty, i.file) at c.in_ok-top.ensures.header) told) whole in
     let bytes = drop top.header.header c.read_top_box.new.room in
     let len = top.header.end - top.offset - top.header.header in
+    let read = λ (told : IsTrue (g.S.Store.is_honest c.args.store.now)). read_from_header file top (box_seen c.view_in-moof.result) c.read_top_box.new.room c.in_ok-top.ensures.whole.1 c.in_ok-top.ensures.room ((rw (i.honesty, i.file) at c.in_ok-top.ensures.bytes) told) c.view_in-moof.ensures in
     rw (p.1, p.2) (λ told.
-    let r : IsRead file top (box_seen c.view_in-moof.result) bytes len = read_from_header file top (box_seen c.view_in-moof.result) c.read_top_box.new.room c.in_ok-top.ensures.whole.1 c.in_ok-top.ensures.room ((rw (i.honesty, i.file) at c.in_ok-top.ensures.bytes) told) c.view_in-moof.ensures in
+    let r = read told in
     tells_refused file c.len-file_len.result c.args.states.now c.loop-at.states c.args.start.room c.loop-at.room (box_seen c.view_in-moof.result) c.in_err-check_moof_by.field-0.0 _ c.len-file_len.ensures
     (λ movie boxes b.
     let u = i.so told movie boxes b in
     record {
       earlier = u.fragments;
-      before = _;
-      next = subst (IsNextMoof file movie u.fragments _) (sym (read_is file top (box_seen c.view_in-moof.result) bytes len r))
+      before = u.passed ++ ((coming told).0 u.left.boxes u.left.are_from).0;
+      next = subst (IsNextMoof file movie u.fragments (u.passed ++ ((coming told).0 u.left.boxes u.left.are_from).0)) (sym (read_is file top (box_seen c.view_in-moof.result) bytes len r))
           (stands_next file movie boxes at c.args.start.outline.now.longest c.args.states.now c.loop-at.states c.args.start.room c.loop-at.room b u top whole ((coming told).0 u.left.boxes u.left.are_from));
       behind = u.behind;
     })
