@@ -44,7 +44,8 @@ RefusesFront reads reads_after _ = ⊥
 -- Why the box that begins at a place of the file is not read to a room of so many bytes: a read
 -- failed, or no box that there is room for begins there.
 abbrev pub RefusesTopBox : ℕ → ℕ → Bool → List ℕ → ℕ → ℕ → Refusal → Type 0
-RefusesTopBox room at honest file reads reads_after refusals.StoreFailed = HasRisen reads reads_after
+RefusesTopBox room at honest file reads reads_after refusals.StoreFailed =
+    HasRisen reads reads_after
 RefusesTopBox room at honest file reads reads_after refusals.StoreChanged = IsTrue honest
     → (h : Header) → header_at true (drop at file) ≡ Ok h → room < h.size
 RefusesTopBox room at honest file reads reads_after _ = ⊥
