@@ -35,9 +35,6 @@ use Rattle.mp4_present.specs.words.TrackTrees.{IsTrackOf, AreTracksOf, HaveTable
 use Rattle.mp4_present.specs.declared.opening.outline.Outline.{Outline}
 use Rattle.mp4_present.specs.declared.opening.tables_pass.PlainTracks.{PlainTracks}
 use Rattle.mp4_present.specs.declared.track_info.TrackInfo.{TrackInfo}
-use Rattle.mp4_present.specs.words.Movies.{IsWhole}
-use Rattle.mp4_present.proofs.FragmentPass.{whole_file}
-use Rattle.mp4_present.proofs.MoofBegins.{moofs_begin}
 use Rattle.mp4_present.proofs.MoofBehind.{begins_behind}
 use Rattle.mp4_present.proofs.MoofSound.{can_hand_out}
 use Rattle.mp4_present.proofs.SampleTotals.{few_samples}
@@ -256,8 +253,8 @@ module _ (honest : Bool) (file : List ℕ) (o : Outline) (moov : List ℕ) (b : 
   -- within the limits
   pub opened_as : (found : FoundTracks) (file_length : ℕ) → found.plain ≡ plain → AllByRecursion (IsInTime (presentation_of file tree).movie.timescale) (presentation_of file tree).tracks
       → found.mehd ≡ movie_length (presentation_of file tree) → normal_moov_length (presentation_of file tree) ≤ max_moov
-      → AreInfosBy head.tracks.items states found.tracks.items → AreOwn says.has.tree p.fragments (map own_seen found.own.items) → AllByRecursion (IsWhole (length file)) o.moofs.items → file_length ≡ length file → IsOpenedAs file (kept_of o moov file_length found) tree
-  opened_as found file_length same times longest short infos own whole e =
+      → AreInfosBy head.tracks.items states found.tracks.items → AreOwn says.has.tree p.fragments (map own_seen found.own.items) → file_length ≡ length file → IsOpenedAs file (kept_of o moov file_length found) tree
+  opened_as found file_length same times longest short infos own e =
       let k = r.outline told in
       let kept : HaveTables (length file) moov (trexes_of says.has.tree) says.has.tree.tracks found.plain = subst (λ (x : PlainTracks). HaveTables (length file) moov (trexes_of says.has.tree) says.has.tree.tracks x) (sym same) have in
       record {
@@ -269,7 +266,7 @@ module _ (honest : Bool) (file : List ℕ) (o : Outline) (moov : List ℕ) (b : 
         whole = e;
         moov = sym r.is ∙ sym says.has.is_moov;
         longest_is = k.3.longest;
-        moofs = moofs_begin file 0 k.0 o.moofs.items (whole_file file k.0 k.1) whole k.3.moofs;
+        moofs = k.3.moofs;
         tables = kept.tables;
         states = kept.states;
         tracks = all_infos file tree (presentation_of file tree).movie.timescale says.has.tree.tracks head.tracks.items states found.tracks.items tracks_are p.behind.seen times infos;

@@ -1,30 +1,30 @@
 -- The `moof` in which a place lies, looked for behind those before it.
-use Rattle.std.proofs.Common.{◌≡◌, ℕ, ◌+◌, ◌≤◌, Bool, true, false, List, [], ◌∷◌, Option, Some, None, find, cond, refl, sym, subst, arith}
+use Rattle.std.proofs.Common.{◌≡◌, ℕ, Bool, true, false, List, [], ◌∷◌, Option, Some, None, find, cond, refl, sym, subst, arith}
 use Rattle.std.specs.Prelude.{IsTrue, Contains, IfSome, suc}
 use Rattle.std.proofs.lemmas.List.Elements.{Contains-append_right}
 use Rattle.mp4_boxes.specs.declared.refusal.Refusal.{Refusal}
 use Rattle.mp4_boxes.specs.declared.refusal.Refusal.TheVariants as refusals
 use Rattle.mp4_present.specs.words.Refusing.{MeetsFault, ReadsToFault, RefusesSearch}
-use Rattle.mp4_present.specs.words.Reading.{RefusesPayload}
-use Rattle.mp4_present.specs.declared.reading.TopBox.{TopBox}
+use Rattle.mp4_present.specs.words.Reading.{RefusesTopBox}
+use Rattle.mp4_present.proofs.Payloads.{Begins}
 
 -- one was not read, where there is room for it
-pub not_read : (honest : Bool) (top : TopBox) (room reads reads_after : ℕ) (r : Refusal) → (IsTrue honest → top.header.end ≤ top.offset + room) → RefusesPayload room top reads reads_after r → RefusesSearch honest reads reads_after r
-not_read honest top room reads reads_after (refusals.Fault f) n w = tt
-not_read honest top room reads reads_after refusals.Memory n w = absurd w
-not_read honest top room reads reads_after refusals.StoreFailed n w = w
-not_read honest top room reads reads_after refusals.StoreChanged n w = λ told. let short = n told in omega (arith, short, w)
-not_read honest top room reads reads_after refusals.WriteFailed n w = w
-not_read honest top room reads reads_after refusals.NoSuchTrack n w = w
+pub not_read : (honest : Bool) (file : List ℕ) (at room reads reads_after : ℕ) (r : Refusal) → (IsTrue honest → Begins file at room) → RefusesTopBox room at honest file reads reads_after r → RefusesSearch honest reads reads_after r
+not_read honest file at room reads reads_after (refusals.Fault f) n w = tt
+not_read honest file at room reads reads_after refusals.Memory n w = absurd w
+not_read honest file at room reads reads_after refusals.StoreFailed n w = w
+not_read honest file at room reads reads_after refusals.StoreChanged n w = λ told. let b = n told in let long = w told b.0 b.1 in let short = b.2 in absurd (omega (arith, short, long))
+not_read honest file at room reads reads_after refusals.WriteFailed n w = w
+not_read honest file at room reads reads_after refusals.NoSuchTrack n w = w
 
 -- no fault is met where one was not read
-pub unread_faultless : (room : ℕ) (top : TopBox) (reads reads_after : ℕ) (r : Refusal) → RefusesPayload room top reads reads_after r → ReadsToFault reads reads_after r
-unread_faultless room top reads reads_after (refusals.Fault f) w = absurd w
-unread_faultless room top reads reads_after refusals.Memory w = tt
-unread_faultless room top reads reads_after refusals.StoreFailed w = tt
-unread_faultless room top reads reads_after refusals.StoreChanged w = tt
-unread_faultless room top reads reads_after refusals.WriteFailed w = tt
-unread_faultless room top reads reads_after refusals.NoSuchTrack w = tt
+pub unread_faultless : (honest : Bool) (file : List ℕ) (at room reads reads_after : ℕ) (r : Refusal) → RefusesTopBox room at honest file reads reads_after r → ReadsToFault reads reads_after r
+unread_faultless honest file at room reads reads_after (refusals.Fault f) w = absurd w
+unread_faultless honest file at room reads reads_after refusals.Memory w = tt
+unread_faultless honest file at room reads reads_after refusals.StoreFailed w = tt
+unread_faultless honest file at room reads reads_after refusals.StoreChanged w = tt
+unread_faultless honest file at room reads reads_after refusals.WriteFailed w = tt
+unread_faultless honest file at room reads reads_after refusals.NoSuchTrack w = tt
 
 -- one that was not checked to its end
 pub not_searched : (honest : Bool) (reads reads_after : ℕ) (r : Refusal) → MeetsFault r → RefusesSearch honest reads reads_after r

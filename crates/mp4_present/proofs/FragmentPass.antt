@@ -1,17 +1,14 @@
 -- The `moof`s of a file whose outline is known, one after the other.
-use Rattle.std.proofs.Common.{◌≡◌, ℕ, ◌+◌, ◌-◌, ◌<◌, ◌≤◌, true, List, slice_index_or, [], ◌∷◌, ◌++◌, Some, None, length, drop, max, refl, length-take, length-drop, ap, subst, ◌∙◌, arith}
+use Rattle.std.proofs.Common.{◌≡◌, ℕ, ◌+◌, ◌-◌, ◌≤◌, true, List, [], ◌∷◌, ◌++◌, Some, length, drop, max, refl, length-take, length-drop, ap, subst, ◌∙◌, arith}
 use Rattle.std.specs.Prelude.{codes, fold, bytes_eq}
-use Rattle.std.proofs.lemmas.List.{drop-drop, drop_all}
+use Rattle.std.proofs.lemmas.List.{drop-drop}
 use Rattle.mp4_boxes.specs.format.Box.{Box, LieEndToEnd, file_container, size, sizes}
 use Rattle.mp4_boxes.specs.format.Children.{of_kind, Holds}
 use Rattle.mp4_boxes.specs.declared.rule.Rule.TheVariants.{File}
 use Rattle.mp4_boxes.proofs.Among.{of_kind-split}
 use Rattle.mp4_boxes.proofs.Tiling.{lies_behind, sizes-append, sizes-cons}
-use Rattle.mp4_boxes.proofs.Plain.{suc_is}
-use Rattle.std.specs.List.{AllByRecursion}
-use Rattle.std.proofs.Math.Seq.{drop-cons}
 use Rattle.mp4_present.specs.words.Movies.{IsWhole}
-use Rattle.mp4_present.specs.words.Outline.{AreFrom, AreMoofsFrom, IsNextFragment, IsOutline, box_at, longest}
+use Rattle.mp4_present.specs.words.Outline.{AreFrom, IsNextFragment, IsOutline, box_at, longest}
 use Rattle.mp4_present.specs.declared.reading.TopBox.{TopBox}
 use Rattle.mp4_present.specs.declared.opening.outline.Outline.{Outline}
 
@@ -40,7 +37,7 @@ pub longest_from : (m : ℕ) (boxes : List Box) → fold (λ (most : ℕ) (b : B
 longest_from m [] = omega arith
 longest_from m (b ∷ boxes) = omega (arith, longest_from (max m (size b)) boxes, longest_from (max 0 (size b)) boxes)
 
-longest_cons : (b : Box) (boxes : List Box) → longest (b ∷ boxes) ≡ max (size b) (longest boxes)
+pub longest_cons : (b : Box) (boxes : List Box) → longest (b ∷ boxes) ≡ max (size b) (longest boxes)
 longest_cons b boxes = omega (arith, longest_from (max 0 (size b)) boxes)
 
 -- before the first `moof`
@@ -79,25 +76,6 @@ left_next file at most top l w n =
 pub next_boxes : (file : List ℕ) (at most : ℕ) (top : TopBox) (l : Left file at most) (w : IsWhole (length file) top) (n : IsNextFragment file at l.boxes (Some top)) → (left_next file at most top l w n).left.boxes ≡ n.1
 unfolding left_next
 next_boxes file at most top l w n = refl
-
--- ---- a list of `moof`s, one after the other
-
--- the one at a place among them
-abbrev pub top_at : List TopBox → ℕ → TopBox
-top_at moofs k = slice_index_or moofs k (record { offset = 0; header = record { kind = record { 0 = [] }; header = 0; end = 0 } })
-
-module _ (moofs : List TopBox) (k : ℕ) (lt : k < length moofs) where
-  one_on : drop k moofs ≡ top_at moofs k ∷ drop (k + 1) moofs
-  one_on = drop-cons moofs k _ lt ∙ ap (λ (n : ℕ). top_at moofs k ∷ drop n moofs) (suc_is k)
-
-  pub next_whole : (L : ℕ) → AllByRecursion (IsWhole L) (drop k moofs) → IsWhole L (top_at moofs k) × AllByRecursion (IsWhole L) (drop (k + 1) moofs)
-  next_whole L h = subst (AllByRecursion (IsWhole L)) one_on h
-
-  pub next_moof : (file : List ℕ) (at : ℕ) → AreMoofsFrom file at (drop k moofs) → ((boxes : List Box) → AreFrom file at boxes → IsNextFragment file at boxes (Some (top_at moofs k))) × AreMoofsFrom file (top_at moofs k).header.end (drop (k + 1) moofs)
-  next_moof file at h = subst (AreMoofsFrom file at) one_on h
-
-pub last_moof : (file : List ℕ) (at : ℕ) (moofs : List TopBox) (k : ℕ) → length moofs ≤ k → AreMoofsFrom file at (drop k moofs) → (boxes : List Box) → AreFrom file at boxes → IsNextFragment file at boxes None
-last_moof file at moofs k le h = subst (AreMoofsFrom file at) (drop_all k moofs le) h
 
 -- it stands at the place or behind it
 pub stands_behind : (file : List ℕ) (at : ℕ) (top : TopBox) (boxes : List Box) → IsNextFragment file at boxes (Some top) → at ≤ top.offset

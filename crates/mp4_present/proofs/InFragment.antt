@@ -22,7 +22,8 @@ use Rattle.mp4_present.specs.words.OwnTrafs.{own_of}
 use Rattle.mp4_present.specs.words.SamplesComing.{HoldsLast, own_trafs}
 use Rattle.mp4_present.specs.declared.walking.Due.{Due}
 use Rattle.mp4_present.specs.declared.walking.Walk.{Walk}
-use Rattle.mp4_present.proofs.MoofBegins.{Parted, offsets, Rise, parted, rise_kind, rise_lies}
+use Rattle.mp4_present.specs.words.Outline.{offsets}
+use Rattle.mp4_present.proofs.MoofBegins.{Parted, Rise, parted, rise_kind, rise_lies}
 use Rattle.mp4_present.proofs.OwnPlaced.{StandsIn, in_moof}
 
 -- ---- all samples

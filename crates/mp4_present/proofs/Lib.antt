@@ -38,6 +38,7 @@ pub mod TablesStand
 pub mod Lengths
 pub mod Causes
 pub mod FragmentPass
+pub mod NextMoof
 pub mod Opened
 pub mod OpeningSteps
 pub mod OpeningBytes

@@ -1,6 +1,6 @@
--- Where the `moof`s of a file begin: as its outline says, and one behind the other.
-use Rattle.std.proofs.Common.{◌⊎◌, zero, suc, ⊎_elim, inl, inr, ◌≡◌, ℕ, ◌+◌, ◌<◌, ◌≤◌, ltb, Bool, true, false, cond, List, [], ◌∷◌, ◌++◌, length, drop, map, refl, sym, ap, subst, ◌∙◌, arith, slice_index_or}
-use Rattle.std.specs.Prelude.{codes, bytes_eq, ⊤}
+-- Where the `moof`s of a file begin: one behind the other.
+use Rattle.std.proofs.Common.{◌⊎◌, zero, suc, ⊎_elim, inl, inr, ◌≡◌, ℕ, ◌+◌, ◌<◌, ◌≤◌, ltb, Bool, true, false, cond, List, [], ◌∷◌, ◌++◌, length, drop, sym, ap, subst, arith, slice_index_or}
+use Rattle.std.specs.Prelude.{bytes_eq, ⊤}
 use Rattle.std.specs.List.{AllByRecursion}
 use Rattle.std.proofs.Math.Nat.{le_refl}
 use Rattle.std.proofs.lemmas.Bool.{ltb-true, ltb-false, lt-ltb}
@@ -8,32 +8,8 @@ use Rattle.std.proofs.lemmas.List.{length-append}
 use Rattle.std.specs.List.Sorted.{IsPartitionPoint, IsPartitionedBy}
 use Rattle.mp4_boxes.specs.format.Box.{Box, LieEndToEnd, size}
 use Rattle.mp4_boxes.specs.format.Children.{of_kind}
-use Rattle.mp4_boxes.proofs.Among.{of_kind-split}
 use Rattle.mp4_boxes.proofs.Tiling.{header_is}
-use Rattle.mp4_present.specs.words.Movies.{IsWhole}
-use Rattle.mp4_present.specs.words.Outline.{AreFrom, AreMoofsFrom, box_at, longest}
-use Rattle.mp4_present.specs.declared.reading.TopBox.{TopBox}
-use Rattle.mp4_present.proofs.FragmentPass.{Left, left_next, next_boxes}
-
-abbrev pub offsets : List Box → List ℕ
-offsets boxes = map (λ (b : Box). b.offset) boxes
-
--- ---- as the outline says
-
--- the `moof`s of an outline are those among the boxes of the file from a place on
-pub moofs_begin : (file : List ℕ) (at : ℕ) (boxes : List Box) (moofs : List TopBox) → AreFrom file at boxes → AllByRecursion (IsWhole (length file)) moofs → AreMoofsFrom file at moofs
-    → map (λ (top : TopBox). top.offset) moofs ≡ offsets (of_kind (codes "moof") boxes)
-moofs_begin file at boxes [] f w m = ap offsets (sym (m boxes f))
-moofs_begin file at boxes (top ∷ moofs) f w m =
-    let n = m.0 boxes f in
-    let b = box_at file top in
-    let left : Left file at (longest (of_kind (codes "moof") boxes)) = record { boxes = boxes; are_from = f; short = le_refl _ } in
-    let next = left_next file at (longest (of_kind (codes "moof") boxes)) top left w.0 n in
-    let kind : bytes_eq (codes "moof") b.kind ≡ true = rw n.5 refl in
-    let all : of_kind (codes "moof") boxes ≡ b ∷ of_kind (codes "moof") n.1 = ap (of_kind (codes "moof")) n.2 ∙ of_kind-split (codes "moof") n.0 n.1 b kind ∙ ap (λ (bs : List Box). bs ++ b ∷ of_kind (codes "moof") n.1) n.3 in
-    let same = next_boxes file at (longest (of_kind (codes "moof") boxes)) top left w.0 n in
-    let more = moofs_begin file top.header.end next.left.boxes moofs next.left.are_from w.1 m.1 in
-    ap (λ (ns : List ℕ). top.offset ∷ ns) (more ∙ ap (λ (bs : List Box). offsets (of_kind (codes "moof") bs)) same) ∙ sym (ap offsets all)
+use Rattle.mp4_present.specs.words.Outline.{offsets}
 
 -- ---- one behind the other
 

@@ -1,5 +1,5 @@
 -- The first fault of the `moof`s of a file, one after the other, is that of the definition.
-use Rattle.std.proofs.Common.{◌≡◌, ℕ, ◌+◌, true, List, [], ◌∷◌, ◌++◌, Option, Some, None, Result, Ok, Err, length, refl, sym, ap, subst, ◌∙◌, arith, append_assoc}
+use Rattle.std.proofs.Common.{◌≡◌, ℕ, ◌+◌, Bool, true, List, [], ◌∷◌, ◌++◌, Option, Some, None, Result, Ok, Err, length, refl, sym, ap, subst, ◌∙◌, arith, append_assoc}
 use Rattle.std.specs.Prelude.{pos, codes, bytes_eq}
 use Rattle.std.proofs.lemmas.List.{append-nil}
 use Rattle.mp4_boxes.specs.format.Box.{Box, file_container}
@@ -24,7 +24,7 @@ use Rattle.mp4_present.specs.words.MoofsJudged.{PassesMoofs, RefusesMoofs}
 use Rattle.mp4_present.specs.words.Outline.{IsNextFragment, IsOutline, box_at}
 use Rattle.mp4_present.specs.words.PassedMoofs.{IsBegun}
 use Rattle.mp4_present.specs.words.Passing.{parts_behind}
-use Rattle.mp4_present.specs.words.Reading.{RefusesPayload}
+use Rattle.mp4_present.specs.words.Reading.{RefusesTopBox}
 use Rattle.mp4_present.specs.declared.opening.outline.Outline.{Outline}
 use Rattle.mp4_present.specs.declared.reading.TopBox.{TopBox}
 use Rattle.mp4_present.proofs.MoofBehind.{counted, counted_more}
@@ -114,10 +114,10 @@ all_judged file movie boxes at most states whole room u n = record {
 }
 
 -- a read that failed names no fault
-pub unread_judged : (file : List ℕ) (movie : MovieTree) (whole : ℕ) (moofs : List Box) (room : ℕ) (top : TopBox) (reads reads_after : ℕ) (r : Refusal) → RefusesPayload room top reads reads_after r → RefusesMoofs file movie whole moofs r
-unread_judged file movie whole moofs room top reads reads_after (refusals.Fault f) w = absurd w
-unread_judged file movie whole moofs room top reads reads_after refusals.Memory w = tt
-unread_judged file movie whole moofs room top reads reads_after refusals.StoreFailed w = tt
-unread_judged file movie whole moofs room top reads reads_after refusals.StoreChanged w = tt
-unread_judged file movie whole moofs room top reads reads_after refusals.WriteFailed w = tt
-unread_judged file movie whole moofs room top reads reads_after refusals.NoSuchTrack w = tt
+pub unread_judged : (file : List ℕ) (movie : MovieTree) (whole : ℕ) (moofs : List Box) (room at : ℕ) (honest : Bool) (reads reads_after : ℕ) (r : Refusal) → RefusesTopBox room at honest file reads reads_after r → RefusesMoofs file movie whole moofs r
+unread_judged file movie whole moofs room at honest reads reads_after (refusals.Fault f) w = absurd w
+unread_judged file movie whole moofs room at honest reads reads_after refusals.Memory w = tt
+unread_judged file movie whole moofs room at honest reads reads_after refusals.StoreFailed w = tt
+unread_judged file movie whole moofs room at honest reads reads_after refusals.StoreChanged w = tt
+unread_judged file movie whole moofs room at honest reads reads_after refusals.WriteFailed w = tt
+unread_judged file movie whole moofs room at honest reads reads_after refusals.NoSuchTrack w = tt

@@ -1,6 +1,7 @@
 -- What the top-level headers of a file say of its `moov` and its `moof`s, one header after the other.
 use Rattle.std.proofs.Common.{◌≡◌, ℕ, ◌-◌, ◌≤◌, Bool, true, false, List, [], ◌∷◌, ◌++◌, Option, Some, None, length, max, refl, sym, ap, subst, ◌∙◌, arith}
 use Rattle.std.specs.Prelude.{codes, bytes_eq, IsTrue}
+use Rattle.std.proofs.lemmas.List.{map-append}
 use Rattle.std.proofs.lemmas.List.Sums.{fold-append}
 use Rattle.mp4_boxes.specs.format.Box.{Box, IsFront, Tiles, size, sizes, file_container}
 use Rattle.mp4_boxes.specs.format.Children.{of_kind, count_among, allows, Holds}
@@ -10,7 +11,7 @@ use Rattle.mp4_boxes.proofs.Among.{all_append}
 use Rattle.mp4_boxes.proofs.Tiling.{sizes-append, sizes-cons}
 use Rattle.mp4_present.specs.words.Reading.{IsTopHeader, top_box}
 use Rattle.mp4_present.specs.format.Denotes.{begins_with_movie}
-use Rattle.mp4_present.specs.words.Outline.{AreSeen, AreMoofsFrom, IsOutline, IsOrdered, longest, moov_seen}
+use Rattle.mp4_present.specs.words.Outline.{AreSeen, IsOutline, IsOrdered, longest, moov_seen, offsets}
 use Rattle.mp4_present.specs.declared.reading.TopBox.{TopBox}
 use Rattle.mp4_present.specs.declared.opening.outline.Outline.{Outline}
 use Rattle.mp4_present.specs.declared.opening.outline.Seen.{Seen}
@@ -116,34 +117,43 @@ seen_fragment file boxes at h seen most n s a j k some m =
 
 -- ---- the whole file
 
--- What is known where the headers up to a place of the file were read.
-pub record Outlining (file : List ℕ) (at : ℕ) (seen : Seen) : Type 0 where
+-- What is known where the headers up to a place of the file were read, and it was noted where `moof`s begin.
+pub record Outlining (file : List ℕ) (at : ℕ) (seen : Seen) (moofs : List ℕ) : Type 0 where
   pub boxes : List Box
   pub front : IsFront (file_container file) boxes
   pub taken : sizes boxes ≡ at
   pub are_seen : AreSeen file boxes seen
   pub goes : TopGoes file boxes
+  pub begin : moofs ≡ offsets (of_kind (codes "moof") boxes)
 
-pub outlining_none : (file : List ℕ) → Outlining file 0 (record { moov = None; longest = 0 })
-outlining_none file = record { boxes = []; front = (tt, tt); taken = refl; are_seen = record { allowed = tt; moov = refl; order = refl; longest = refl }; goes = top_goes_none file }
+pub outlining_none : (file : List ℕ) → Outlining file 0 (record { moov = None; longest = 0 }) []
+outlining_none file = record { boxes = []; front = (tt, tt); taken = refl; are_seen = record { allowed = tt; moov = refl; order = refl; longest = refl }; goes = top_goes_none file; begin = refl }
+
+-- one more box is no `moof`, or one
+pub begin_other : (boxes : List Box) (b : Box) (moofs : List ℕ) → bytes_eq (codes "moof") b.kind ≡ false → moofs ≡ offsets (of_kind (codes "moof") boxes) → moofs ≡ offsets (of_kind (codes "moof") (boxes ++ b ∷ []))
+begin_other boxes b moofs other e = e ∙ ap offsets (sym (kind_snoc_other (codes "moof") boxes b other))
+
+pub begin_more : (boxes : List Box) (b : Box) (moofs : List ℕ) → bytes_eq (codes "moof") b.kind ≡ true → moofs ≡ offsets (of_kind (codes "moof") boxes) → moofs ++ b.offset ∷ [] ≡ offsets (of_kind (codes "moof") (boxes ++ b ∷ []))
+begin_more boxes b moofs this e =
+    ap (λ (ns : List ℕ). ns ++ b.offset ∷ []) e ∙ sym (map-append (λ (x : Box). x.offset) (of_kind (codes "moof") boxes) (b ∷ [])) ∙ ap offsets (sym (kind_snoc (codes "moof") boxes b this))
 
 pub outlining_more : (file : List ℕ) (at : ℕ) (h : TopHeader) (seen : Seen) (boxes : List Box) → IsFront (file_container file) boxes → sizes boxes ≡ at → IsTopHeader file at h → at ≤ h.end
-    → AreSeen file (boxes ++ top_box file at h ∷ []) seen → TopGoes file (boxes ++ top_box file at h ∷ []) → Outlining file h.end seen
-outlining_more file at h seen boxes f t r le s g =
+    → AreSeen file (boxes ++ top_box file at h ∷ []) seen → TopGoes file (boxes ++ top_box file at h ∷ []) → (moofs : List ℕ) → moofs ≡ offsets (of_kind (codes "moof") (boxes ++ top_box file at h ∷ [])) → Outlining file h.end seen moofs
+outlining_more file at h seen boxes f t r le s g moofs e =
     let m = more file boxes at h (record { front = f; taken = t; read = r; room = le }) in
-    record { boxes = boxes ++ top_box file at h ∷ []; front = (m.lie, tt); taken = m.taken; are_seen = s; goes = g }
+    record { boxes = boxes ++ top_box file at h ∷ []; front = (m.lie, tt); taken = m.taken; are_seen = s; goes = g; begin = e }
 
-tiles : (file : List ℕ) (at : ℕ) (seen : Seen) (o : Outlining file at seen) → length file ≤ at → Tiles (file_container file) o.boxes
-tiles file at seen o le = top_tiles file o.boxes at (record { lie = o.front.0; taken = o.taken }) le
+tiles : (file : List ℕ) (at : ℕ) (seen : Seen) (moofs : List ℕ) (o : Outlining file at seen moofs) → length file ≤ at → Tiles (file_container file) o.boxes
+tiles file at seen moofs o le = top_tiles file o.boxes at (record { lie = o.front.0; taken = o.taken }) le
 
 -- the end was reached: these are the boxes of the file
-pub outlined : (file : List ℕ) (at : ℕ) (seen : Seen) (out : Outline) (o : Outlining file at seen) → length file ≤ at → seen.moov ≡ Some out.moov → out.longest ≡ seen.longest → AreMoofsFrom file 0 out.moofs.items
+pub outlined : (file : List ℕ) (at : ℕ) (seen : Seen) (out : Outline) (o : Outlining file at seen out.moofs.items) → length file ≤ at → seen.moov ≡ Some out.moov → out.longest ≡ seen.longest
     → Holds File (file_container file) o.boxes × (begins_with_movie o.boxes ≡ true) × IsOutline file o.boxes out
-outlined file at seen out o le e long m =
+outlined file at seen out o le e long =
     let s = o.are_seen in
     let one = s.moov ∙ ap (moov_seen file) e in
     let count : count_among (codes "moov" ∷ []) o.boxes ≡ 1 = count_is (codes "moov") o.boxes ∙ ap (λ (bs : List Box). length bs) one in (
-      record { tiles = tiles file at seen o le; allowed = s.allowed; quantities = (count, (tt, (tt, (tt, (tt, (tt, (tt, tt))))))) },
+      record { tiles = tiles file at seen out.moofs.items o le; allowed = s.allowed; quantities = (count, (tt, (tt, (tt, (tt, (tt, (tt, tt))))))) },
       subst (λ (w : Option TopBox). IsOrdered w o.boxes) e s.order,
-      record { moov = one; moofs = m; longest = long ∙ s.longest },
+      record { moov = one; moofs = o.begin; longest = long ∙ s.longest },
     )

@@ -1,10 +1,28 @@
 //! Which `traf`s of a file have samples of a track (ISO/IEC 14496-12, 8.8.6).
+ghost use Rattle.std.specs.Prelude.{◌≡◌, ◌++◌, ◌∷◌, [], OnOk};
+
 use mp4_boxes::Memory;
 use mp4_frag::OwnTraf;
 use std::alloc::Global;
 
-// For how many more the list of a track gets room at least.
+// For how many more a list gets room at least.
 const LEAST_GROWTH: usize = 4;
+
+/// One more of a list, which gets room for an eighth more, or for four, where it has none.
+pub(crate) fn push_spared<T: Drop>(list: &mut Vec<T>, item: T) -> Result<(), Memory>
+    ensures { OnOk result (list.new.items ≡ list.old.items ++ item ∷ []) }
+{
+    let len = list.len();
+    if len == list.capacity() {
+        let Ok(()) = list.reserve_exact(LEAST_GROWTH.max(len / 8)) else {
+            return Err(Memory);
+        };
+    }
+    let Ok(()) = list.push(item) else {
+        return Err(Memory);
+    };
+    Ok(())
+}
 
 /// The `traf`s that have samples of a track, in file order, and how long the payload of the longest
 /// is. It takes 32 bytes for each, and has room for an eighth more, or for four.
@@ -33,15 +51,7 @@ impl OwnTrafs {
     pub(crate) fn note(&mut self, traf: OwnTraf) -> Result<(), Memory>
         ensures { OnOk result (own_seen self.new ≡ with_note traf (own_seen self.old)) }
     {
-        let len = self.trafs.len();
-        if len == self.trafs.capacity() {
-            let Ok(()) = self.trafs.reserve_exact(LEAST_GROWTH.max(len / 8)) else {
-                return Err(Memory);
-            };
-        }
-        let Ok(()) = self.trafs.push(traf) else {
-            return Err(Memory);
-        };
+        push_spared(&mut self.trafs, traf)?;
         self.longest = self.longest.max(traf.len);
         Ok(())
     }

@@ -1,15 +1,21 @@
 //! Reads of a file behind a store: one top-level header, or a stretch of bytes.
-ghost use Rattle.std.specs.Prelude.{◌≡◌, ◌+◌, ◌<◌, ◌≤◌, length, take, IfOk, IfErr, OnOk, IsTrue};
+ghost use Rattle.std.specs.Prelude.{◌≡◌, ◌+◌, ◌-◌, ◌^◌, ◌<◌, ◌≤◌, length, take, IfOk, IfErr, OnOk, IsTrue};
 ghost use Rattle.mp4_boxes.specs.words.View.{box_seen};
 ghost use Rattle.mp4_boxes.specs.format.Bytes.{AreBytes};
 ghost use Rattle.mp4_store.specs.words.Device.{MayRise, range};
-ghost use Rattle.mp4_present.specs.words.Movies.{IsWhole, Fills};
-ghost use Rattle.mp4_present.specs.words.StoresRead.{OnlyReads, WhereHonest, WhereRead, Refused};
-ghost use Rattle.mp4_present.specs.words.Reading.{IsTopHeader, RefusesHeader, RefusesRead, RefusesFront, RefusesPayload, RefusesRange};
+ghost use Rattle.mp4_present.specs.words.Movies.{HasRoom, IsWhole};
+ghost use Rattle.mp4_present.specs.words.StoresRead.{OnlyReads, WhereHonest, WhereRead, Refused, RefusedOf};
+ghost use Rattle.mp4_present.specs.words.Reading.{IsTopHeader, RefusesHeader, RefusesRead, RefusesFront, RefusesTopBox, RefusesRange};
 
 use mp4_boxes::{BoxView, Refusal, TopHeader, top_header};
 use mp4_store::Store;
 use std::alloc::Global;
+
+/// The most bytes of a header.
+pub(crate) const HEADER: u64 = 16;
+
+// So many bytes are read with the header of a box at least, where the file has them.
+const FRONT: u64 = 4096;
 
 /// A box of the file itself.
 #[derive(Clone, Copy, Debug, PartialEq, Eq)]
@@ -41,9 +47,9 @@ fn view_at<'a>(at: u64, header: TopHeader, payload: &'a [u8]) -> BoxView<'a>
 }
 
 impl TopBox {
-    ghost use Rattle.std.specs.Prelude.{◌≡◌, ◌+◌, ◌≤◌, length};
+    ghost use Rattle.std.specs.Prelude.{◌≡◌, ◌+◌, ◌-◌, ◌≤◌, length, take, drop};
     ghost use Rattle.mp4_boxes.specs.words.View.{box_seen};
-    ghost use Rattle.mp4_present.specs.words.Movies.{Fills};
+    ghost use Rattle.mp4_present.specs.words.Movies.{Fills, HasRoom};
 
     /// The place of the first byte of its payload.
     pub(crate) fn payload_offset(&self) -> u64
@@ -64,6 +70,30 @@ impl TopBox {
         } }
     {
         view_at(self.offset, self.header, payload)
+    }
+
+    /// How long it is.
+    pub(crate) fn len(&self) -> u64
+        requires { self.now.offset ≤ self.now.header.end }
+        ensures { result ≡ self.now.header.end - self.now.offset }
+    {
+        self.header.end - self.offset
+    }
+
+    /// The box that these bytes begin with, from its header on.
+    pub(crate) fn view_in<'a>(&self, bytes: &'a [u8]) -> BoxView<'a>
+        requires { HasRoom (length bytes.now) self.now }
+        ensures { box_seen result ≡ record {
+          kind = self.now.header.kind.0;
+          offset = self.now.offset;
+          header = self.now.header.header;
+          payload = take (self.now.header.end - self.now.offset - self.now.header.header)
+              (drop self.now.header.header bytes.entry.now);
+        } }
+    {
+        let header = usize::from(self.header.header);
+        let end = self.len() as usize;
+        view_at(self.offset, self.header, &bytes[header..end])
     }
 }
 
@@ -133,30 +163,68 @@ pub fn read_front<S: Store>(
     Ok(())
 }
 
-/// Reads the payload of a box to the front of the room, and says how long it is. Where there is no
-/// room for it, the store has changed.
-pub(crate) fn read_payload<S: Store>(
+// Reads the bytes behind the first ones of so many from the place `at` on, where these first ones
+// are at the front of the room.
+fn read_rest<S: Store>(
     store: &mut S,
-    top: TopBox,
+    at: u64,
     room: &mut [u8],
-) -> Result<usize, Refusal>
-    requires { IsWhole (length (S.file store.old)) top }
+    read: usize,
+    len: usize,
+) -> Result<(), Refusal>
+    requires place { at + len ≤ length (S.file store.old) }
+    requires fits { at + len < 2 ^ 64 }
+    requires room { (read ≤ length room.old) × (len ≤ length room.old) }
+    requires first { WhereHonest S.Store store.old (λ file.
+        take read room.old ≡ range file at read) }
     ensures store { OnlyReads S.Store store.old store.new result }
-    ensures fills { IfOk result (λ len. Fills len top × (len ≤ length room.new)) }
-    ensures room { AreBytes room.new }
-    ensures bytes { WhereRead S.Store store.old result (λ file len.
-        take len room.new ≡ range file (top.offset + top.header.header) len) }
-    ensures refusal { Refused S.Store store.old store.new result
-        (RefusesPayload (length room.old) top) }
+    ensures room { length room.new ≡ length room.old }
+    ensures bytes { OnOk result (WhereHonest S.Store store.old (λ file.
+        take len room.new ≡ range file at len)) }
+    ensures refusal { Refused S.Store store.old store.new result RefusesFront }
 {
-    let at = top.payload_offset();
-    let len = top.header.end - at;
+    if read < len {
+        store.read_at(at + read as u64, &mut room[read..len])?;
+    }
+    Ok(())
+}
+
+/// Reads the box of the file itself that begins at the place `at` to the front of the room, its
+/// header first: by one read where it is no longer than is likely, or than 4096 bytes, else by two.
+/// Where it has no header, or there is no room for it, the store has changed.
+pub(crate) fn read_top_box<S: Store>(
+    store: &mut S,
+    at: u64,
+    likely: u64,
+    room: &mut [u8],
+) -> Result<TopBox, Refusal>
+    requires place { at < length (S.file store.old) }
+    requires room { 16 ≤ length room.old }
+    ensures store { OnlyReads S.Store store.old store.new result }
+    ensures place { IfOk result (λ top. top.offset ≡ at) }
+    ensures whole { IfOk result (λ top. IsWhole (length (S.file store.old)) top
+        × HasRoom (length room.new) top) }
+    ensures header { WhereRead S.Store store.old result (λ file top.
+        IsTopHeader file top.offset top.header) }
+    ensures room { AreBytes room.new }
+    ensures bytes { WhereRead S.Store store.old result (λ file top.
+        take (top.header.end - top.offset) room.new
+        ≡ range file top.offset (top.header.end - top.offset)) }
+    ensures refusal { RefusedOf S.Store store.old store.new result
+        (RefusesTopBox (length room.old) at) }
+{
+    let left = store.len() - at;
+    let read = likely.max(FRONT).min(left).min(room.len() as u64) as usize;
+    read_front(store, at, room, read)?;
+    let Ok(header) = top_header(&room[..read.min(16)], at, left) else {
+        return Err(Refusal::StoreChanged);
+    };
+    let len = header.end - at;
     if len > room.len() as u64 {
         return Err(Refusal::StoreChanged);
     }
-    let len = len as usize;
-    read_front(store, at, room, len)?;
-    Ok(len)
+    read_rest(store, at, room, read, len as usize)?;
+    Ok(TopBox { offset: at, header })
 }
 
 /// Reads so many bytes from the place `at` on to the front of the room, and no others. Where there

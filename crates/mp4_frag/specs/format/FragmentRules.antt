@@ -8,8 +8,7 @@ use Rattle.mp4_tables.specs.format.TableRules.{lies_within, is_index}
 use Rattle.mp4_frag.specs.declared.trex.Trex.{Trex}
 use Rattle.mp4_frag.specs.format.FragmentSamples.{Part, part_samples, trex_for}
 
--- a track as fragments see it: its ID, how many descriptions it has, and what comes before: at
--- which decode time the next sample is due, if any came
+-- a track as fragments see it: its ID, and how many descriptions it has
 pub record TrackFacts : Type 0 where
   pub id : ℕ
   pub descriptions : ℕ

@@ -34,6 +34,11 @@ pub record IsWhole (length : ℕ) (top : TopBox) : Type 0 where
   pub header : top.offset + top.header.header ≤ top.header.end
   pub within : top.header.end ≤ length
 
+-- so many bytes, from its first one on, have all of the box
+abbrev pub HasRoom : ℕ → TopBox → Type 0
+HasRoom bytes top = (top.offset + top.header.header ≤ top.header.end)
+    × (top.header.end ≤ top.offset + bytes)
+
 -- so many bytes fill the box
 abbrev pub Fills : ℕ → TopBox → Type 0
 Fills bytes top = top.offset + top.header.header + bytes ≡ top.header.end

@@ -28,7 +28,6 @@ use Rattle.mp4_frag.specs.declared.state.TrackState.{TrackState}
 use Rattle.mp4_head.specs.declared.heads.TrackHead.{TrackHead}
 use Rattle.mp4_present.specs.declared.opening.FoundTracks.{FoundTracks}
 use Rattle.mp4_present.specs.declared.opening.outline.Outline.{Outline}
-use Rattle.mp4_present.specs.declared.reading.TopBox.{TopBox}
 use Rattle.mp4_present.specs.declared.movie.TrackTables.{TrackTables}
 use Rattle.mp4_present.specs.declared.track_info.TrackInfo.{TrackInfo}
 
@@ -183,7 +182,7 @@ kept_of o moov file_length f = record {
   moov = moov;
   file_len = file_length;
   longest = o.longest;
-  moofs = map (λ (top : TopBox). top.offset) o.moofs.items;
+  moofs = o.moofs.items;
   tables = f.plain.tables.items;
   states = f.plain.states.items;
   tracks = f.tracks.items;

@@ -1,5 +1,5 @@
 -- Where the `moov` and the `moof`s of a file lie, as its top-level headers say.
-use Rattle.std.specs.Prelude.{◌≡◌, ℕ, ◌+◌, length, drop, List, [], ◌∷◌, ◌++◌, true, IsTrue, Option, Some, None, max, fold, codes}
+use Rattle.std.specs.Prelude.{◌≡◌, ℕ, ◌+◌, ◌<◌, length, drop, map, List, [], ◌∷◌, ◌++◌, true, IsTrue, Option, Some, None, max, fold, codes}
 use Rattle.std.specs.List.{AllByRecursion}
 use Rattle.mp4_boxes.specs.format.Box.{Box, LieEndToEnd, size, sizes}
 use Rattle.mp4_boxes.specs.format.Children.{of_kind, allows}
@@ -36,13 +36,13 @@ IsNextFragment file from boxes (Some top) =
     × (of_kind (codes "moof") before ≡ []) × (top.offset ≡ from + sizes before)
     × (top.header.kind.0 ≡ codes "moof")
 
--- these are all `moof`s of a file from a place on, one after the other
-abbrev pub AreMoofsFrom : List ℕ → ℕ → List TopBox → Type 0
-AreMoofsFrom file from [] =
-    (boxes : List Box) → AreFrom file from boxes → IsNextFragment file from boxes None
-AreMoofsFrom file from (top ∷ moofs) =
-    ((boxes : List Box) → AreFrom file from boxes → IsNextFragment file from boxes (Some top))
-    × AreMoofsFrom file top.header.end moofs
+-- where these boxes begin
+abbrev pub offsets : List Box → List ℕ
+offsets boxes = map (λ (b : Box). b.offset) boxes
+
+-- all of these places lie in a file of so many bytes
+abbrev pub AreIn : ℕ → List ℕ → Type 0
+AreIn length places = AllByRecursion (λ (at : ℕ). at < length) places
 
 -- the length of the longest of some boxes, 0 where there is none
 abbrev pub longest : List Box → ℕ
@@ -58,5 +58,5 @@ pub record AreSeen (file : List ℕ) (boxes : List Box) (seen : Seen) : Type 0 w
 -- So the `moov` and the `moof`s lie among the boxes of the file.
 pub record IsOutline (file : List ℕ) (boxes : List Box) (o : Outline) : Type 0 where
   pub moov : of_kind (codes "moov") boxes ≡ box_at file o.moov ∷ []
-  pub moofs : AreMoofsFrom file 0 o.moofs.items
+  pub moofs : o.moofs.items ≡ offsets (of_kind (codes "moof") boxes)
   pub longest : o.longest ≡ longest (of_kind (codes "moof") boxes)

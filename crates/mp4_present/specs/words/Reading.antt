@@ -1,13 +1,12 @@
 -- What reads of a file behind a store answer.
 use Rattle.std.specs.Prelude.{◌≡◌, ◌⊎◌, ℕ, ◌+◌, ◌-◌, ◌<◌, List, length, take, drop, Bool, true, IsTrue, Ok, Err, codes}
 use Rattle.mp4_store.specs.words.Device.{HasRisen}
-use Rattle.mp4_boxes.specs.format.Box.{Box}
+use Rattle.mp4_boxes.specs.format.Box.{Box, Header, header_at}
 use Rattle.mp4_boxes.specs.format.BoxFaults.{header_there}
 use Rattle.mp4_boxes.specs.words.View.{top_header_seen}
 use Rattle.mp4_boxes.specs.declared.headers.TopHeader.{TopHeader}
 use Rattle.mp4_boxes.specs.declared.refusal.Refusal.{Refusal}
 use Rattle.mp4_boxes.specs.declared.refusal.Refusal.TheVariants as refusals
-use Rattle.mp4_present.specs.declared.reading.TopBox.{TopBox}
 
 -- the header that stands at this place of the file itself
 abbrev pub IsTopHeader : List ℕ → ℕ → TopHeader → Type 0
@@ -42,12 +41,14 @@ abbrev pub RefusesFront : ℕ → ℕ → Refusal → Type 0
 RefusesFront reads reads_after refusals.StoreFailed = HasRisen reads reads_after
 RefusesFront reads reads_after _ = ⊥
 
--- Why the payload of a box is not read to a room of so many bytes.
-abbrev pub RefusesPayload : ℕ → TopBox → ℕ → ℕ → Refusal → Type 0
-RefusesPayload room top reads reads_after refusals.StoreFailed = HasRisen reads reads_after
-RefusesPayload room top reads reads_after refusals.StoreChanged = top.offset + top.header.header
-    + room < top.header.end
-RefusesPayload room top reads reads_after _ = ⊥
+-- Why the box that begins at a place of the file is not read to a room of so many bytes: a read
+-- failed, or no box that there is room for begins there.
+abbrev pub RefusesTopBox : ℕ → ℕ → Bool → List ℕ → ℕ → ℕ → Refusal → Type 0
+RefusesTopBox room at honest file reads reads_after refusals.StoreFailed =
+    HasRisen reads reads_after
+RefusesTopBox room at honest file reads reads_after refusals.StoreChanged = IsTrue honest
+    → (h : Header) → header_at true (drop at file) ≡ Ok h → room < h.size
+RefusesTopBox room at honest file reads reads_after _ = ⊥
 
 -- Why so many bytes of a file of a length, from a place on, are not read to a room.
 abbrev pub RefusesRange : ℕ → ℕ → ℕ → ℕ → ℕ → ℕ → Refusal → Type 0

@@ -5,8 +5,8 @@ ghost use Rattle.mp4_present.specs.format.FaultNumbers.{Tells};
 ghost use Rattle.mp4_present.specs.words.NumbersTold.{IsPlain, TellsTraf};
 ghost use Rattle.mp4_boxes.specs.words.View.{box_seen};
 ghost use Rattle.mp4_present.specs.words.Refusing.{RefusesNumbers, RefusesSearch};
-ghost use Rattle.std.specs.List.{AllByRecursion};
-ghost use Rattle.mp4_present.specs.words.Movies.{Fills, IsWhole};
+ghost use Rattle.mp4_present.specs.words.Movies.{Fills};
+ghost use Rattle.mp4_present.specs.words.Outline.{AreIn};
 ghost use Rattle.mp4_present.specs.words.Opening.{HasOutline};
 ghost use Rattle.mp4_present.specs.words.FaultSearches.{SearchesWithin, TellsOf};
 ghost use Rattle.mp4_present.specs.words.StoresRead.{OnlyReads, RefusedOf, WhereHonest};
@@ -92,8 +92,7 @@ fn numbers_behind<S: Store, L: Ledger, M: Ledger>(
     requires bytes { WhereHonest S.Store store.old (λ file.
         IsPayloadIn file refused.outline.now moov.now) }
     requires outline { HasOutline (S.is_honest store.old) (S.file store.old) refused.outline.now }
-    requires whole { AllByRecursion (IsWhole (length (S.file store.old)))
-        refused.outline.now.moofs.items }
+    requires moofs { AreIn (length (S.file store.old)) refused.outline.now.moofs.items }
     ensures store { OnlyReads S.Store store.old store.new result }
     ensures told { TellsOf S.Store store.old refused.entry.fault.now.offset result }
     ensures work { WhereHonest S.Store store.old (λ file.

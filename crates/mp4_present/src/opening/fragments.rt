@@ -1,7 +1,6 @@
 //! The `moof`s of a file: each is read, checked and given up before the next.
 ghost use Rattle.std.specs.Prelude.{◌≤◌, min, length, IfOk, IfErr, ◌≡◌, ◌^◌, map, None, OnOk, false};
-ghost use Rattle.std.specs.List.{AllByRecursion};
-ghost use Rattle.mp4_present.specs.words.Movies.{IsWhole};
+ghost use Rattle.mp4_present.specs.words.Outline.{AreIn};
 ghost use Rattle.mp4_present.specs.words.ToOpen.{PassesNoting, PassesOn};
 ghost use Rattle.mp4_present.specs.words.StoresRead.{OnlyReads, WhereRead, Refused, RefusedOf, WhereHonest};
 ghost use Rattle.mp4_frag.specs.words.Noted.{ids_of};
@@ -19,7 +18,7 @@ use crate::faults::FaultNumbers;
 use crate::opening::outline::Outline;
 use crate::opening::tables_pass::PlainTracks;
 use crate::own_trafs::OwnTrafs;
-use crate::reading::read_payload;
+use crate::reading::{HEADER, read_top_box};
 use crate::track_places::NotedTracks;
 use mp4_boxes::{Refusal, Steps};
 use mp4_frag::{TrackState, check_moof_by};
@@ -46,12 +45,12 @@ fn pass_fragments<S: Store, L: Ledger, M: Ledger>(
     steps: &mut Steps<L, M>,
 ) -> Result<(), Refusal>
     requires room { (start.room ≤ 2 ^ 24) × HaveRoom start.room states.old
-        × (length bytes.old ≡ start.outline.now.longest)
+        × (start.outline.now.longest ≤ length bytes.old) × (16 ≤ length bytes.old)
         × (length tracks.old.own.items ≡ length states.old) }
     requires tracks { ArePlacesOf (ids_of states.old) tracks.old.places
         × (tracks.old.is_refused ≡ false) × (tracks.old.told ≡ None) }
     requires outline { HasOutline (S.is_honest store.old) (S.file store.old) start.outline.now
-        × AllByRecursion (IsWhole (length (S.file store.old))) start.outline.now.moofs.items }
+        × AreIn (length (S.file store.old)) start.outline.now.moofs.items }
     ensures store { OnlyReads S.Store store.old store.new result }
     ensures passed { OnOk result ((length tracks.new.own.items ≡ length states.old)
         × WhereHonest S.Store store.old (λ file.
@@ -73,9 +72,11 @@ fn pass_fragments<S: Store, L: Ledger, M: Ledger>(
     let file_len = store.len();
     let Start { outline, room } = start;
     let mut room = room;
-    for top in &outline.moofs {
-        let len = read_payload(store, *top, bytes)?;
-        let moof = top.view(&bytes[..len]);
+    let mut likely = 0;
+    for at in &outline.moofs {
+        let top = read_top_box(store, *at, likely, bytes)?;
+        likely = top.len().saturating_add(top.len() / 4);
+        let moof = top.view_in(bytes);
         check_moof_by(moof, file_len, states, tracks, &mut room, steps)?;
         if tracks.is_refused {
             return Err(Refusal::Memory);
@@ -111,7 +112,7 @@ pub(crate) fn check_fragments<S: Store, L: Ledger, M: Ledger>(
     requires room { (known.plain.now.room ≤ 2 ^ 24)
         × HaveRoom known.plain.now.room known.plain.now.states.items }
     requires outline { HasOutline (S.is_honest store.old) (S.file store.old) known.outline.now
-        × AllByRecursion (IsWhole (length (S.file store.old))) known.outline.now.moofs.items }
+        × AreIn (length (S.file store.old)) known.outline.now.moofs.items }
     ensures each { IfOk result
         (λ p. (length p.states.items ≡ length known.entry.plain.now.states.items)
         × (length p.own.items ≡ length known.entry.plain.now.states.items)) }
@@ -136,7 +137,7 @@ pub(crate) fn check_fragments<S: Store, L: Ledger, M: Ledger>(
     let Known { outline, plain } = known;
     states.extend_from_slice(plain.states.as_slice())?;
     let mut tracks = NotedTracks::noting(alloc, states.as_slice())?;
-    let mut bytes = vec![in alloc; 0u8; outline.longest as usize]?;
+    let mut bytes = vec![in alloc; 0u8; outline.longest.max(HEADER) as usize]?;
     let (all, bytes) = (states.as_mut_slice(), bytes.as_mut_slice());
     let start = Start {
         outline,

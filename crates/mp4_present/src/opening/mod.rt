@@ -1,8 +1,8 @@
 //! A file, read to one presentation or refused.
 ghost use Rattle.std.specs.Prelude.{◌≡◌, length, IfOk, IfErr, OnOk};
 ghost use Rattle.mp4_boxes.specs.declared.refusal.Refusal.TheVariants as refusals;
-ghost use Rattle.std.specs.List.{AllByRecursion};
-ghost use Rattle.mp4_present.specs.words.Movies.{Fills, IsWhole};
+ghost use Rattle.mp4_present.specs.words.Movies.{Fills};
+ghost use Rattle.mp4_present.specs.words.Outline.{AreIn};
 ghost use Rattle.mp4_head.specs.declared.heads.TrackHead.{TrackHead};
 ghost use Rattle.mp4_present.specs.format.Denotes.{FileTree};
 ghost use Rattle.mp4_present.specs.words.OpenedMovie.{IsInfoBy, IsOpenedAs, IsOpenedOwn, kept_of};
@@ -22,7 +22,7 @@ pub mod totals;
 use crate::movie::Movie;
 use crate::opening::fragments::{Known, check_fragments};
 use crate::opening::limit_checks::{check_limits, duration_of};
-use crate::opening::outline::{Outline, offsets_of, read_outline};
+use crate::opening::outline::{Outline, read_outline};
 use crate::opening::tables_pass::{PlainTracks, check_tables};
 use crate::own_trafs::OwnTrafs;
 use crate::reading::read_bytes;
@@ -90,7 +90,7 @@ fn find<S: Store, L: Ledger, M: Ledger>(
     requires moov { Fills (length moov.now) outline.now.moov
         × WhereHonest S.Store store.old (λ file. IsPayloadIn file outline.now moov.now) }
     requires outline { HasOutline (S.is_honest store.old) (S.file store.old) outline.now
-        × AllByRecursion (IsWhole (length (S.file store.old))) outline.now.moofs.items }
+        × AreIn (length (S.file store.old)) outline.now.moofs.items }
     ensures store { OnlyReads S.Store store.old store.new result }
     ensures tables { IfOk result (HasTables moov.now) }
     ensures movie { WhereRead S.Store store.old result (λ file f. (t : FileTree)
@@ -145,7 +145,6 @@ pub fn open_movie<S: Store, L: Ledger, M: Ledger>(
     let at = outline.moov.payload_offset();
     let moov = read_bytes(alloc, store, at, outline.moov.header.end - at)?;
     let file_len = store.len();
-    let moofs = offsets_of(alloc, outline.moofs.as_slice())?;
     let FoundTracks {
         plain,
         tracks,
@@ -158,7 +157,7 @@ pub fn open_movie<S: Store, L: Ledger, M: Ledger>(
         moov,
         file_len,
         longest: outline.longest,
-        moofs,
+        moofs: outline.moofs,
         tables,
         states,
         tracks,

@@ -1,22 +1,21 @@
 //! Where the parts of a file lie, by its top-level headers alone.
-ghost use Rattle.std.specs.Prelude.{◌≡◌, ℕ, ◌+◌, ◌≤◌, ◌++◌, ◌∷◌, [], length, map, bytes_eq, IfOk, IfSome, IsTrue};
-ghost use Rattle.std.specs.List.{AllByRecursion};
+ghost use Rattle.std.specs.Prelude.{◌≡◌, ℕ, ◌+◌, ◌≤◌, ◌++◌, ◌∷◌, [], length, bytes_eq, IfOk, IfSome, IsTrue};
 ghost use Rattle.mp4_boxes.specs.declared.rule.Rule.TheVariants.{File};
 ghost use Rattle.mp4_boxes.specs.format.FirstFault.{FirstNamed, naming, top_tests};
-ghost use Rattle.mp4_present.specs.declared.reading.TopBox.{TopBox};
 ghost use Rattle.mp4_present.specs.words.TopJudged.{NamesTop};
 ghost use Rattle.mp4_present.specs.words.Movies.{IsWhole};
 ghost use Rattle.mp4_present.specs.words.Reading.{top_box};
 ghost use Rattle.mp4_present.specs.words.ToOpen.{WhereSeen};
-ghost use Rattle.mp4_present.specs.words.Outline.{AreSeen};
+ghost use Rattle.mp4_present.specs.words.Outline.{AreIn, AreSeen};
 ghost use Rattle.mp4_present.specs.words.Refusing.{RefusesSearch};
 ghost use Rattle.mp4_present.specs.words.Opening.{HasOutline};
 ghost use Rattle.mp4_present.specs.words.StoresRead.{OnlyReads, RefusedOf};
 
+use crate::own_trafs::push_spared;
 use crate::reading::{TopBox, read_top_header};
 use mp4_boxes::{Fault, FourCc, Kind, Refusal, Rule, TopHeader};
 use mp4_store::Store;
-use std::alloc::{AllocError, Global};
+use std::alloc::Global;
 
 pub(crate) const MOOF: FourCc = FourCc(*b"moof");
 
@@ -32,21 +31,10 @@ pub(crate) struct Seen {
 #[derive(Drop)]
 pub(crate) struct Outline {
     pub moov: TopBox,
-    /// The `moof`s, in file order: 24 bytes for each, and up to 48 while the list grows.
-    pub moofs: Vec<TopBox>,
+    /// Where the `moof`s begin, in file order: 8 bytes for each, with room for an eighth more.
+    pub moofs: Vec<u64>,
     /// The length of the longest `moof`, 0 where there is none.
     pub longest: u64,
-}
-
-/// Where these boxes begin.
-pub(crate) fn offsets_of(alloc: Global, boxes: &[TopBox]) -> Result<Vec<u64>, AllocError>
-    ensures { IfOk result (λ v. v.items ≡ map (λ (b : TopBox). b.offset) boxes.now) }
-{
-    let mut offsets = Vec::with_capacity(alloc, boxes.len())?;
-    for k in 0..boxes.len() {
-        offsets.push(boxes[k].offset)?;
-    }
-    Ok(offsets)
 }
 
 /// Whether a type is this one.
@@ -96,7 +84,7 @@ pub(crate) fn read_outline<S: Store>(alloc: Global, store: &mut S) -> Result<Out
     ensures store { OnlyReads S.Store store.old store.new result }
     ensures outline { IfOk result (HasOutline (S.is_honest store.old) (S.file store.old)) }
     ensures within { IfOk result (λ o. IsWhole (length (S.file store.old)) o.moov
-        × AllByRecursion (IsWhole (length (S.file store.old))) o.moofs.items) }
+        × AreIn (length (S.file store.old)) o.moofs.items) }
     ensures refusal { RefusedOf S.Store store.old store.new result
         (λ honest file. RefusesSearch honest) }
     ensures exact { IsTrue (S.is_honest store.old) → NamesTop (S.file store.old) result }
@@ -112,7 +100,7 @@ pub(crate) fn read_outline<S: Store>(alloc: Global, store: &mut S) -> Result<Out
         let header = read_top_header(store, at)?;
         seen = note(seen, at, header)?;
         if is(header.kind, MOOF) {
-            moofs.push(TopBox { offset: at, header })?;
+            push_spared(&mut moofs, at)?;
         }
         at = header.end;
     }

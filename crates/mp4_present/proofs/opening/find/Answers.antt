@@ -55,7 +55,7 @@ returns-clause-movie g c =
     let within = rw c.as_slice.ensures.value at c.in_ok-mehd.ensures.within in
     let w = within _ (measure honest file outline moov b head plain r says told own begin states.items passed) in
     let found : FoundTracks = record { plain = plain; tracks = c.in_ok-tracks.tracks; own = c.in_ok-passed.passed.own; mehd = c.in_ok-mehd.mehd } in
-    (_, opened_as honest file outline moov b head plain r says told own begin states.items passed found (length file) refl w.0 w.1 w.2 (rw c.as_slice-2.ensures.value at c.in_ok-tracks.ensures.infos.infos) kept.1 c.requires.outline.1 refl)
+    (_, opened_as honest file outline moov b head plain r says told own begin states.items passed found (length file) refl w.0 w.1 w.2 (rw c.as_slice-2.ensures.value at c.in_ok-tracks.ensures.infos.infos) kept.1 refl)
 
 pub returns-clause-ids : goal.returns-clause-ids
 returns-clause-ids g c =

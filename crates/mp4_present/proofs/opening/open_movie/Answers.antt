@@ -1,8 +1,7 @@
-use Rattle.std.proofs.Common.{◌≡◌, ℕ, List, length, map, refl, subst, sym, ap, ◌∙◌}
+use Rattle.std.proofs.Common.{◌≡◌, ℕ, length, refl, subst, sym, ap, ◌∙◌}
 use Rattle.std.proofs.lemmas.Result.{err_from_is_err_and}
 use Rattle.mp4_present.proofs.FileChecked.{none_checked, refused_as, found_as}
 use Rattle.mp4_present.specs.words.OpenedMovie.{IsOpenedAs, kept_of}
-use Rattle.mp4_present.specs.declared.reading.TopBox.{TopBox}
 use Rattle.mp4_present.proofs.FileJudged.{refused_first, unread_first, outline_judged, read_judged}
 use Rattle.mp4_present.proofs.opening.open_movie.Goals as goal
 
@@ -12,12 +11,10 @@ returns-clause-movie g c = λ told.
     let moov = c.in_ok-moov.ensures in
     let file = g.S.Store.file c.args.store.now in
     let found = c.in_ok-plain.field-0 in
-    let r = (rw (moov.honesty, outline.store.honesty, moov.file, outline.store.file, c.as_slice-2.ensures.value) at c.in_ok-plain.ensures.movie) told in
+    let r = (rw (moov.honesty, outline.store.honesty, moov.file, outline.store.file, c.as_slice.ensures.value) at c.in_ok-plain.ensures.movie) told in
     let len : length file ≡ c.len-file_len.result = ap length (sym (moov.file ∙ outline.store.file)) ∙ sym c.len-file_len.ensures in
     let kept = λ (n : ℕ). kept_of c.in_ok-outline.outline c.in_ok-moov.moov.items n found in
-    let begin = c.in_ok-moofs.ensures ∙ ap (map (λ (b : TopBox). b.offset)) c.as_slice.ensures.value in
-    let opened = subst (λ (n : ℕ). IsOpenedAs file (kept n) r.0) len r.1 in
-    (r.0, record { opened = subst (λ (ns : List ℕ). IsOpenedAs file (record (kept c.len-file_len.result) { moofs = ns }) r.0) (sym begin) opened; own_tracks = refl; own_edits = refl })
+    (r.0, record { opened = subst (λ (n : ℕ). IsOpenedAs file (kept n) r.0) len r.1; own_tracks = refl; own_edits = refl })
 
 pub returns-in_err-outline-clause-work : goal.returns-in_err-outline-clause-work
 returns-in_err-outline-clause-work g c = λ told. none_checked _ _ _ _

@@ -1,7 +1,6 @@
 use Rattle.std.proofs.Common.{◌≡◌, None, false, ℕ, ◌^◌, ◌≤◌, List, min, length, map, drop}
-use Rattle.std.specs.List.{AllByRecursion}
-use Rattle.mp4_present.specs.words.Movies.{IsWhole}
-use Rattle.mp4_present.specs.words.Outline.{AreMoofsFrom}
+use Rattle.mp4_present.specs.words.Outline.{AreIn}
+use Rattle.mp4_present.proofs.NextMoof.{Come}
 use Rattle.mp4_boxes.specs.format.Box.{Box}
 use Rattle.mp4_head.specs.format.Tree.{MovieTree}
 use Rattle.mp4_present.specs.words.PassedMoofs.{IsBegun}
@@ -21,17 +20,18 @@ use Rattle.mp4_present.specs.words.NumbersTold.{LooksFit}
 use Rattle.mp4_present.proofs.opening.fragments.pass_fragments.Given as goal
 
 -- there is room for more samples, and the `moof`s to come are known
-abbrev pub invariant-loop-top : goal.invariant-loop-top
-invariant-loop-top g l =
+abbrev pub invariant-loop-at : goal.invariant-loop-at
+invariant-loop-at g l =
     (next : ℕ) × record {
       honesty : g.S.Store.is_honest l.store ≡ g.S.Store.is_honest l.fn.store;
       file : g.S.Store.file l.store ≡ g.S.Store.file l.fn.store;
       reads : g.S.Store.read_failures l.store ≡ g.S.Store.read_failures l.fn.store;
       states : HaveRoom l.room l.states;
       few : l.room ≤ 2 ^ 24;
-      longest : length l.bytes ≡ l.start.outline.now.longest;
-      whole : AllByRecursion (IsWhole (length (g.S.Store.file l.fn.store))) (drop l.top-index l.top-items);
-      to_come : IsTrue (g.S.Store.is_honest l.fn.store) → AreMoofsFrom (g.S.Store.file l.fn.store) next (drop l.top-index l.top-items);
+      longest : l.start.outline.now.longest ≤ length l.bytes;
+      header : 16 ≤ length l.bytes;
+      begin : AreIn (length (g.S.Store.file l.fn.store)) (drop l.at-index l.at-items);
+      to_come : IsTrue (g.S.Store.is_honest l.fn.store) → Come (g.S.Store.file l.fn.store) next (drop l.at-index l.at-items);
       left : IsTrue (g.S.Store.is_honest l.fn.store) → Left (g.S.Store.file l.fn.store) next l.start.outline.now.longest;
       so : IsTrue (g.S.Store.is_honest l.fn.store) → (movie : MovieTree) (boxes : List Box) → IsBegun (g.S.Store.file l.fn.store) movie boxes l.fn.states l.fn.start.room → IsUnderWay (g.S.Store.file l.fn.store) movie boxes next l.start.outline.now.longest l.states l.room;
       first : IsTrue (g.S.Store.is_honest l.fn.store) → (movie : MovieTree) (boxes : List Box) → IsBegun (g.S.Store.file l.fn.store) movie boxes l.fn.states l.fn.start.room

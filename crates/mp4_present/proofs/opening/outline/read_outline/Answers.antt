@@ -1,11 +1,10 @@
 use Rattle.std.proofs.Common.{rules, ◌≡◌, ℕ, ◌<◌, ◌≤◌, ◌∙◌, List, [], ◌∷◌, ◌++◌, length, refl, subst, arith}
-use Rattle.mp4_present.specs.declared.reading.TopBox.{TopBox}
+use Rattle.std.specs.Prelude.{bytes_eq, codes, true, false}
 use Rattle.std.proofs.lemmas.Result.{err_from_is_err_and}
 use Rattle.mp4_boxes.proofs.Among.{all_append}
-use Rattle.mp4_present.specs.words.Movies.{IsWhole}
-use Rattle.mp4_present.proofs.Fragmented.{moofs_ended, moofs_more, moofs_other, no_moofs}
+use Rattle.mp4_present.specs.words.Reading.{top_box}
 use Rattle.mp4_present.proofs.TopJudged.{refuses_top, top_unread, top_failed, top_goes_more, top_lacks, top_holds, top_ends}
-use Rattle.mp4_present.proofs.Outlines.{outlining_none, outlining_more, outlined}
+use Rattle.mp4_present.proofs.Outlines.{begin_more, begin_other, outlining_none, outlining_more, outlined}
 use Rattle.mp4_present.proofs.Refusals.{not_headed}
 use Rattle.mp4_present.proofs.opening.outline.read_outline.Goals as goal
 
@@ -13,7 +12,7 @@ pub loop-at-init : goal.loop-at-init
 loop-at-init g c =
     let file = g.S.Store.file c.args.store.now in
     let none : c.new-moofs.result.items ≡ [] = search rules in
-    (refl, refl, refl, (λ _. outlining_none file), tt, (λ _. rw none (no_moofs file 0)), rw none tt)
+    (refl, refl, refl, (λ _. rw none (outlining_none file)), tt, rw none tt)
 
 pub returns-in_err-header-clause-refusal : goal.returns-in_err-header-clause-refusal
 returns-in_err-header-clause-refusal g c =
@@ -30,7 +29,8 @@ loop-at-preserved g c =
     let w = e.within in
     let le : c.loop-at.at ≤ c.in_ok-header.header.end = omega (arith, w.0) in
     let end : c.in_ok-header.header.end ≤ length file = subst (λ (bs : List ℕ). c.in_ok-header.header.end ≤ length bs) i.1 w.2 in
-    let lt : c.loop-at.at < length file = search rules in (
+    let lt : c.loop-at.at < length file = search rules in
+    let other : bytes_eq (codes "moof") c.in_ok-header.header.kind.0 ≡ false = search rules in (
       e.honesty ∙ i.0,
       e.file ∙ i.1,
       e.reads ∙ i.2,
@@ -38,14 +38,14 @@ loop-at-preserved g c =
           let o = i.3 told in
           let read = (rw (i.0, i.1) at e.header) told in
           let seen = c.in_ok-seen.ensures.noted file o.boxes o.front o.taken read o.are_seen in
-          outlining_more file c.loop-at.at c.in_ok-header.header c.in_ok-seen.seen o.boxes o.front o.taken read le seen (top_goes_more file o.boxes c.loop-at.at o.front.0 o.taken o.goes c.in_ok-header.header lt read (c.in_ok-seen.ensures.exact file o.boxes o.front o.taken read o.are_seen).names)),
+          outlining_more file c.loop-at.at c.in_ok-header.header c.in_ok-seen.seen o.boxes o.front o.taken read le seen (top_goes_more file o.boxes c.loop-at.at o.front.0 o.taken o.goes c.in_ok-header.header lt read (c.in_ok-seen.ensures.exact file o.boxes o.front o.taken read o.are_seen).names)
+          c.loop-at.moofs.items (begin_other o.boxes (top_box file c.loop-at.at c.in_ok-header.header) c.loop-at.moofs.items other o.begin)),
       c.in_ok-seen.ensures.within (length file) end i.4,
-      (λ told. moofs_other file c.loop-at.at c.in_ok-header.header lt ((rw (i.0, i.1) at e.header) told) le (search rules) 0 c.loop-at.moofs.items (i.5 told)),
-      i.6,
+      i.5,
     )
 
-pub loop-at-preserved-in_ok-push : goal.loop-at-preserved-in_ok-push
-loop-at-preserved-in_ok-push g c =
+pub loop-at-preserved-in_ok-push_spared : goal.loop-at-preserved-in_ok-push_spared
+loop-at-preserved-in_ok-push_spared g c =
     let i = c.loop-at.invariant in
     let e = c.in_ok-header.ensures in
     let file = g.S.Store.file c.args.store.now in
@@ -53,8 +53,8 @@ loop-at-preserved-in_ok-push g c =
     let le : c.loop-at.at ≤ c.in_ok-header.header.end = omega (arith, w.0) in
     let end : c.in_ok-header.header.end ≤ length file = subst (λ (bs : List ℕ). c.in_ok-header.header.end ≤ length bs) i.1 w.2 in
     let lt : c.loop-at.at < length file = search rules in
-    let top : TopBox = record { offset = c.loop-at.at; header = c.in_ok-header.header } in
-    let pushed : c.push.new.self.items ≡ c.loop-at.moofs.items ++ top ∷ [] = search rules in (
+    let this : bytes_eq (codes "moof") c.in_ok-header.header.kind.0 ≡ true = search rules in
+    let pushed : c.push_spared.new.list.items ≡ c.loop-at.moofs.items ++ c.loop-at.at ∷ [] = search rules in (
       e.honesty ∙ i.0,
       e.file ∙ i.1,
       e.reads ∙ i.2,
@@ -62,10 +62,10 @@ loop-at-preserved-in_ok-push g c =
           let o = i.3 told in
           let read = (rw (i.0, i.1) at e.header) told in
           let seen = c.in_ok-seen.ensures.noted file o.boxes o.front o.taken read o.are_seen in
-          outlining_more file c.loop-at.at c.in_ok-header.header c.in_ok-seen.seen o.boxes o.front o.taken read le seen (top_goes_more file o.boxes c.loop-at.at o.front.0 o.taken o.goes c.in_ok-header.header lt read (c.in_ok-seen.ensures.exact file o.boxes o.front o.taken read o.are_seen).names)),
+          outlining_more file c.loop-at.at c.in_ok-header.header c.in_ok-seen.seen o.boxes o.front o.taken read le seen (top_goes_more file o.boxes c.loop-at.at o.front.0 o.taken o.goes c.in_ok-header.header lt read (c.in_ok-seen.ensures.exact file o.boxes o.front o.taken read o.are_seen).names)
+          c.push_spared.new.list.items (pushed ∙ begin_more o.boxes (top_box file c.loop-at.at c.in_ok-header.header) c.loop-at.moofs.items this o.begin)),
       c.in_ok-seen.ensures.within (length file) end i.4,
-      (λ told. rw pushed (moofs_more file c.loop-at.at c.in_ok-header.header lt ((rw (i.0, i.1) at e.header) told) le (search rules) 0 c.loop-at.moofs.items (i.5 told))),
-      rw pushed (all_append (IsWhole (length file)) c.loop-at.moofs.items (top ∷ []) i.6 (record { header = w.0; within = end }, tt)),
+      rw pushed (all_append (λ (n : ℕ). n < length file) c.loop-at.moofs.items (c.loop-at.at ∷ []) i.5 (lt, tt)),
     )
 
 pub returns-clause-outline : goal.returns-clause-outline
@@ -73,11 +73,11 @@ returns-clause-outline g c told =
     let file = g.S.Store.file c.args.store.now in
     let i = c.loop-at.invariant in
     let o = i.3 told in
-    let r = outlined file c.loop-at.at c.loop-at.seen _ o (search rules) c.in-Some.is refl (moofs_ended file c.loop-at.at 0 c.loop-at.moofs.items (search rules) (i.5 told)) in
+    let r = outlined file c.loop-at.at c.loop-at.seen _ o (search rules) c.in-Some.is refl in
     (o.boxes, r.0, r.1, r.2)
 
 pub returns-clause-within : goal.returns-clause-within
-returns-clause-within g c = (rw c.in-Some.is at c.loop-at.invariant.4, c.loop-at.invariant.6)
+returns-clause-within g c = (rw c.in-Some.is at c.loop-at.invariant.4, c.loop-at.invariant.5)
 
 -- ---- the first fault
 

@@ -1,8 +1,7 @@
 use Rattle.std.proofs.Common.{◌≡◌, ◌-◌, length}
 use Rattle.std.specs.Prelude.{IsTrue, IfSome}
 use Rattle.mp4_present.specs.words.Movies.{IsWhole}
-use Rattle.std.specs.List.{AllByRecursion}
-use Rattle.mp4_present.proofs.Fragmented.{AreMoofsUpTo}
+use Rattle.mp4_present.specs.words.Outline.{AreIn}
 use Rattle.mp4_present.proofs.Outlines.{Outlining}
 use Rattle.mp4_present.proofs.opening.outline.read_outline.Given as goal
 
@@ -12,10 +11,9 @@ invariant-loop-at g l =
     (g.S.Store.is_honest l.store ≡ g.S.Store.is_honest l.fn.store)
     × (g.S.Store.file l.store ≡ g.S.Store.file l.fn.store)
     × (g.S.Store.read_failures l.store ≡ g.S.Store.read_failures l.fn.store)
-    × (IsTrue (g.S.Store.is_honest l.fn.store) → Outlining (g.S.Store.file l.fn.store) l.at l.seen)
+    × (IsTrue (g.S.Store.is_honest l.fn.store) → Outlining (g.S.Store.file l.fn.store) l.at l.seen l.moofs.items)
     × IfSome l.seen.moov (IsWhole (length (g.S.Store.file l.fn.store)))
-    × (IsTrue (g.S.Store.is_honest l.fn.store) → AreMoofsUpTo (g.S.Store.file l.fn.store) 0 l.at l.moofs.items)
-    × AllByRecursion (IsWhole (length (g.S.Store.file l.fn.store))) l.moofs.items
+    × AreIn (length (g.S.Store.file l.fn.store)) l.moofs.items
 
 abbrev pub decreases-loop-at : goal.decreases-loop-at
 decreases-loop-at g l = l.len - l.at
