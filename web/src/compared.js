@@ -6,6 +6,10 @@ import { troubled } from './cards.js';
 
 // So many differences are listed at first, and with each press of the button.
 const STEP = 200;
+// So many differences of one value, in samples that follow one another, are told in one line,
+const LONG = 4;
+// and so many lines are shown at most.
+const MOST = 20000;
 
 // What stands under the verdict.
 function under(told, facts) {
@@ -49,22 +53,57 @@ function kinds(told, acts) {
         entries.map(([kind, count]) => chip(kind, `${kind} ${count.toLocaleString('en')}`)));
 }
 
+// Which value of a sample a difference is of, and of which track; nothing where it is of no sample.
+function valueOf({ at }) {
+    if (at[0] !== 'track' || at[2] !== 'sample') return null;
+    return [at[1], at[4], at[4] === 'group' ? at.slice(5).join(' ') : ''].join(' ');
+}
+
+/**
+ * Differences in groups: those of one value of samples that follow one another are one, the others
+ * stand alone. A group stands where its first difference does.
+ */
+export function inRuns(differences) {
+    const groups = [], open = new Map();
+    for (const difference of differences) {
+        const value = valueOf(difference), last = open.get(value)?.at(-1);
+        if (value !== null && last?.at[3] + 1 === difference.at[3]) open.get(value).push(difference);
+        else {
+            groups.push([difference]);
+            if (value !== null) open.set(value, groups.at(-1));
+        }
+    }
+    return groups;
+}
+
+// A difference as a line that leads to its place.
+function row(it, acts) {
+    const made = element('li', {}, button('', () => acts.jump(it), {}));
+    made.firstChild.append(
+        element('span', { className: 'kind' }, it.kind), element('code', {}, it.line));
+    if (state.jumped === it.line) made.firstChild.setAttribute('aria-current', 'true');
+    return made;
+}
+
+// A group of differences: its lines; of a long one the first, and how many more there are.
+function rows(group, acts) {
+    if (group.length < LONG || state.unfolded.has(group[0].line)) return group.map(it => row(it, acts));
+    const made = row(group[0], acts), count = (group.length - 1).toLocaleString('en');
+    made.append(button(
+        `and ${count} more, up to sample ${group.at(-1).at[3].toLocaleString('en')}`,
+        () => acts.unfold(group[0].line), { className: 'plain-button' }));
+    return [made];
+}
+
 // The differences, a line each that leads to its place.
 function list(told, acts) {
-    const all = told.differences.filter(it => !state.filter || it.kind === state.filter);
-    const some = all.slice(0, state.shown);
-    const row = it => element('li', {}, button('', () => acts.jump(it), {}));
-    const items = some.map(it => {
-        const made = row(it);
-        made.firstChild.append(
-            element('span', { className: 'kind' }, it.kind), element('code', {}, it.line));
-        if (state.jumped === it.line) made.firstChild.setAttribute('aria-current', 'true');
-        return made;
-    });
-    const more = all.length > some.length ? element(
-                     'p', { className: 'row' },
-                     button(`Show ${Math.min(STEP, all.length - some.length)} more`, acts.more))
-                                          : null;
+    const all = inRuns(told.differences.filter(it => !state.filter || it.kind === state.filter));
+    const items = all.slice(0, state.shown).flatMap(group => rows(group, acts)).slice(0, MOST);
+    const more = all.length > state.shown
+        ? element(
+            'p', { className: 'row' },
+            button(`Show ${Math.min(STEP, all.length - state.shown)} more`, acts.more))
+        : null;
     return [
         element('ol', { className: 'differences', aria: { label: 'Differences' } }, items), more
     ];

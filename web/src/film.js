@@ -109,6 +109,35 @@ export function lanesBefore(found) {
     });
 }
 
+/**
+ * How many seconds later than by its own times a lane's samples are shown where its edits are
+ * applied; null where these do more than delay it and cut it off.
+ */
+export function shiftOf(lane) {
+    if (!lane.edits.length) return 0;
+    const { at, media, rate } = lane.edits.at(-1);
+    const isSimple = lane.edits.slice(0, -1).every(edit => edit.media === null)
+        && media !== null && rate === 1;
+    return isSimple ? at - media : null;
+}
+
+/**
+ * A lane as its edits present it, on the movie's time line; the lane itself where they say nothing,
+ * or more than when it begins.
+ */
+export function presented(lane) {
+    const moved = shiftOf(lane);
+    if (!moved) return lane;
+    lane.presented ??= {
+        ...lane,
+        moved,
+        shown: lane.shown.map(seconds => seconds + moved),
+        from: lane.from + moved,
+        ends: lane.ends + moved,
+    };
+    return lane.presented;
+}
+
 // When the edits of a lane end, on the movie's time line; 0 where its samples begin behind that, as
 // those of live films do.
 function editsEnd(lane) {

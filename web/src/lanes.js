@@ -156,8 +156,10 @@ function cutLines(lane, numbers, scene, foot, look) {
 function unshown(lane) {
     const found = [];
     if (lane.from > 0 && lane.samples.count) found.push([0, lane.from, 'empty']);
+    const moved = lane.moved ?? 0;
     const shown = lane.edits.filter(edit => edit.media !== null)
                       .map(edit => [edit.media, edit.media + edit.seconds * Math.max(0, edit.rate)])
+                      .map(([from, to]) => [from + moved, to + moved])
                       .sort((a, b) => a[0] - b[0]);
     if (!lane.edits.length) return found;
     let at = lane.from;

@@ -185,7 +185,9 @@ async function compare() {
         told = { trouble: error };
     }
     if (!isStill()) return;
-    Object.assign(state, { comparison: told, filter: null, shown: 200, jumped: null });
+    Object.assign(
+        state,
+        { comparison: told, filter: null, shown: 200, jumped: null, unfolded: new Set() });
     draw();
 }
 
@@ -277,6 +279,10 @@ const acts = {
     },
     filter: kind => {
         Object.assign(state, { filter: kind, shown: 200 });
+        draw();
+    },
+    unfold: line => {
+        state.unfolded.add(line);
         draw();
     },
     more: () => {

@@ -2,7 +2,7 @@
 import { boxAt, boxed, drawBoxes, listed, meant, sorts } from './boxes.js';
 import { button, element, keep, one } from './dom.js';
 import { mayHaveFields, shownFields } from './fields.js';
-import { extent, sampleAt } from './film.js';
+import { extent, presented, sampleAt, shiftOf } from './film.js';
 import { described, drawLanes } from './lanes.js';
 import { ON_PAGE, PALETTE } from './palette.js';
 import { Pane, tools } from './panes.js';
@@ -42,6 +42,20 @@ export class TimePicture {
         this.note = element('p', { className: 'quiet' });
         this.hint =
             'Point at a sample. Wheel or fingers zoom once the drawing is chosen; drag to move.';
+        this.edits = button('Apply edits', () => this.turn(), {
+            title: 'Draw samples when edits show them, or by their own times'
+        });
+    }
+
+    // Whether samples are drawn when their edits show them.
+    get isPresented() {
+        return state.isPresented ?? taken().length > 1;
+    }
+
+    // Applies edits, or doesn't any more.
+    turn() {
+        Object.assign(state, { isPresented: !this.isPresented, chosen: [] });
+        this.refresh();
     }
 
     /** Draws the card anew, for the files that are there. */
@@ -53,7 +67,7 @@ export class TimePicture {
         if (!card.firstChild) {
             card.append(
                 element(
-                    'div', { className: 'head' }, element('h2', {}, 'In time'),
+                    'div', { className: 'head' }, element('h2', {}, 'In time'), this.edits,
                     tools(this.pane, () => this.save())),
                 this.note, this.pane.host, this.told);
             readout(this.told, ['', this.hint]);
@@ -66,11 +80,24 @@ export class TimePicture {
                 .concat(few.map(
                     slot =>
                         `Of ${slot.name} the first ${lanesOfSlot(slot).length} tracks are drawn.`))
+                .concat(this.ownTimes(shown))
                 .join(' ');
-        const all = extent(this.lanes), key = shown.map(slot => slot.key).join() + all.to;
+        this.edits.hidden = !shown.some(
+            slot => !slot.before && lanesOfSlot(slot).some(lane => lane.edits.length));
+        this.edits.setAttribute('aria-pressed', String(this.isPresented));
+        const all = extent(this.lanes);
+        const key = `${shown.map(slot => slot.key)} ${this.isPresented} ${all.to}`;
         if (this.shownKey !== key) this.pane.reach(all.from, all.to);
         this.shownKey = key;
         this.pane.refresh();
+    }
+
+    // What there is to say of tracks whose edits aren't applied, though others' are.
+    ownTimes(shown) {
+        const lanes = this.isPresented ? shown.filter(slot => !slot.before).flatMap(lanesOfSlot) : [];
+        const others = lanes.filter(lane => shiftOf(lane) === null);
+        return others.map(
+            lane => `Track ${lane.id} is drawn by its own times: its edits do more than delay it.`);
     }
 
     // Lanes in the order in which they are drawn: those of two files by turns.
@@ -79,8 +106,9 @@ export class TimePicture {
         const found = [];
         for (let k = 0; k < most; k += 1) {
             slots.forEach((slot, at) => {
-                const lane = lanesOfSlot(slot)[k];
-                if (!lane) return;
+                const own = lanesOfSlot(slot)[k];
+                if (!own) return;
+                const lane = this.isPresented && !slot.before ? presented(own) : own;
                 lane.letter = slots.length > 1 ? 'AB'[at] : '';
                 lane.differs = slots.length > 1 ? state.comparison?.bySample?.get(k) : null;
                 lane.file = slot.name;

@@ -9,14 +9,19 @@ export function slotOf(file) {
     return { key: keys, file, name: file.name, size: file.size, samples: [], isBusy: true };
 }
 
-/** All that the page knows. `words` are those that are left out. */
+/**
+ * All that the page knows. `words` are those that are left out; `isPresented` says whether edits are
+ * applied in the picture in time, null where nobody chose: then they are where there are two files.
+ */
 export const state = {
     slots: {a: null, b: null},
     words: new Set(),
     comparison: null,
     filter: null,
     chosen: [],
-    shown: 200
+    shown: 200,
+    unfolded: new Set(),
+    isPresented: null
 };
 
 /** The places that have files, as `[name, slot]`. */
