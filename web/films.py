@@ -14,9 +14,15 @@ FPS, SCALE, FRAME, SECOND = 25, 12800, 512, 25
 # Sound: 48,000 a second, 1,024 in a sample.
 RATE, GRAIN = 48000, 1024
 ENGLISH = 0x15c7
-# Entries of `stsd`, as AVC and AAC have them, with made-up parameters.
-AVC = box(b'avc1', PICTURE[8:], box(b'avcC', bytes(7)))
-AAC = box(b'mp4a', SOUND[8:])
+# Pictures of this size; profile, constraints and level of AVC (High, level 3.1).
+WIDTH, HEIGHT = 640, 360
+HIGH = bytes([1, 0x64, 0, 0x1f, 0xff, 0xe0, 0])
+# An AudioSpecificConfig: AAC-LC, 48,000 a second, two channels; and an ES_Descriptor around it (ISO/IEC 14496-1, 7.2.6).
+LOW = b'\x05\x02\x11\x90'
+ES = b'\x03\x19' + bytes(3) + b'\x04\x11\x40\x15' + bytes(11) + LOW + b'\x06\x01\x02'
+# Entries of `stsd`, as AVC and AAC have them.
+AVC = box(b'avc1', PICTURE[8:32], struct.pack('>2H', WIDTH, HEIGHT), PICTURE[36:], box(b'avcC', HIGH))
+AAC = box(b'mp4a', SOUND[8:24], struct.pack('>4HI', 2, 16, 0, 0, RATE << 16), full(b'esds', 0, ES))
 
 
 def elst(*rows) -> bytes:

@@ -1,9 +1,17 @@
 // The cards of the two files, what is left out, faults, tracks, and what can be kept.
 import { button, element, fill, keep, one } from './dom.js';
 import { explained, rows } from './faults.js';
-import { handled } from './film.js';
+import { fragmentsOf, handled } from './film.js';
 import { counted, grouped, rated, sized, timed } from './pen.js';
-import { bytesInAll, isAccepted, isQuick, state, taken, wordList } from './state.js';
+import {
+    bytesInAll,
+    isAccepted,
+    isQuick,
+    lanesOfSlot,
+    state,
+    taken,
+    wordList
+} from './state.js';
 
 const TROUBLES = {
     changed: 'The file changed while it was read, or can\u2019t be read any more. Choose it again.',
@@ -173,6 +181,19 @@ function editsTold(track, scale) {
     }).join(', then ');
 }
 
+// Values of all sample entries of a track, each once.
+function ofEntries(entries, value) {
+    return [...new Set(entries.map(value).filter(Boolean))].join(', ');
+}
+
+// The size of pictures and how many a second there are, or the sample rate and the channels.
+function formatOf(track, found, seconds) {
+    const many = seconds ? Number(track.samples) / seconds : 0;
+    const speed = track.handler === 'vide' && many ? `, ${Number(many.toFixed(3))} fps` : '';
+    return ofEntries(found.entries, entry => entry.width ? `${entry.width} \u00d7 ${entry.height}${speed}`
+        : entry.channels ? `${entry.rate / 1000} kHz, ${counted(entry.channels, 'channel')}` : '');
+}
+
 // A row of the table of tracks.
 function trackRow(track, slot, k) {
     const seconds = Number(track.duration) / track.timescale;
@@ -184,7 +205,8 @@ function trackRow(track, slot, k) {
     const cells = [
         ['Track', String(track.id)],
         ['Kind', handled(track.handler)],
-        ['Codec', [...new Set(track.descriptions)].join(', ')],
+        ['Codec', ofEntries(found.entries, entry => entry.codec)],
+        ['Format', formatOf(track, found, seconds)],
         ['Language', found.language],
         ['Duration', timed(seconds), 'number'],
         ['Timescale', grouped(track.timescale), 'number'],
@@ -195,45 +217,70 @@ function trackRow(track, slot, k) {
         ['Starts', timed(Number(track.start) / track.timescale), 'number'],
         ['Edits', editsTold(track, slot.show.timescale)],
     ];
-    return element(
-        'tr', {},
-        cells.map(
-            ([label, text, className = '']) =>
-                element('td', { className, data: { label } }, element('span', {}, text))));
+    return cells;
 }
 
-// So many tracks of a file are listed at most.
+// So many tracks, or fragments, of a file are listed at most.
 const MOST_ROWS = 200;
-const COLUMNS = [
-    'Track', 'Kind', 'Codec', 'Language', 'Duration', 'Timescale', 'Samples', 'Sync', 'Bytes',
-    'Bit rate', 'Starts', 'Edits'
-];
-const NUMBERS =
-    new Set(['Duration', 'Timescale', 'Samples', 'Sync', 'Bytes', 'Bit rate', 'Starts']);
+
+// A table of rows, each a list of cells: a label, a text, and whether it is a number. `said` stands
+// above it.
+function table(slot, said, rows) {
+    const head = ([label, , className = '']) => element('th', { scope: 'col', className }, label);
+    const cell = ([label, text, className = '']) =>
+        element('td', { className, data: { label } }, element('span', {}, text));
+    const more = rows.length > MOST_ROWS ? `; the first ${MOST_ROWS} of them` : '';
+    return element(
+        'table', {}, element('caption', { data: { key: slot.key } }, said + more),
+        element('thead', {}, element('tr', {}, rows[0]?.map(head) ?? [])),
+        element(
+            'tbody', {},
+            rows.slice(0, MOST_ROWS).map(row => element('tr', {}, row.map(cell)))));
+}
 
 // The tracks of a file.
 function trackTable(slot) {
-    const head = COLUMNS.map(
-        text =>
-            element('th', { scope: 'col', className: NUMBERS.has(text) ? 'number' : '' }, text));
-    const body = slot.show.tracks.slice(0, MOST_ROWS).map((track, k) => trackRow(track, slot, k));
-    const all = slot.show.tracks.length;
-    const lasts = slot.show.timescale ? timed(Number(slot.show.mehd) / slot.show.timescale) : '';
-    return element(
-        'table', {},
-        element(
-            'caption', { data: { key: slot.key } },
-            `${slot.name}: ${counted(all, 'track')}, ${lasts}${
-                all > MOST_ROWS ? `; the first ${MOST_ROWS} of them` : ''}`),
-        element('thead', {}, element('tr', {}, head)), element('tbody', {}, body));
+    const { show } = slot, lasts = show.timescale ? timed(Number(show.mehd) / show.timescale) : '';
+    return table(
+        slot, `${slot.name}: ${counted(show.tracks.length, 'track')}, ${lasts}`,
+        show.tracks.map((track, k) => trackRow(track, slot, k)));
 }
 
-/** Draws the tables of tracks. */
+// A row of the table of movie fragments.
+function fragmentRow({ moof, samples, bytes, from, to, isSync }, k) {
+    return [
+        ['Fragment', String(k + 1)],
+        ['Offset', grouped(moof), 'number'],
+        ['Decoded at', timed(from), 'number'],
+        ['Lasts', timed(to - from), 'number'],
+        ['Samples', grouped(samples), 'number'],
+        ['Bytes', sized(bytes), 'number'],
+        ['Bit rate', to > from ? rated(bytes * 8 / (to - from)) : '', 'number'],
+        ['Begins with', isSync ? 'a sync sample' : 'another sample'],
+    ];
+}
+
+// The movie fragments of a file, where it has some, to be unfolded.
+function fragmentTable(slot) {
+    const found = slot.fragments ??= fragmentsOf(lanesOfSlot(slot));
+    if (!found.length) return null;
+    const said = `${slot.name}: ${counted(found.length, 'movie fragment')}`;
+    const toggle = event => {
+        slot.isListed = event.target.open;
+    };
+    return element(
+        'details', { open: Boolean(slot.isListed), on: { toggle } }, element('summary', {}, said),
+        table(slot, said, found.map(fragmentRow)));
+}
+
+/** Draws the tables of tracks and of movie fragments. */
 export function drawTracks() {
     const shown = taken().filter(([, slot]) => slot.show && slot.outline);
     const card = one('#tracks');
     card.hidden = !shown.length;
-    fill(card, element('h2', {}, 'Tracks'), ...shown.map(([, slot]) => trackTable(slot)));
+    fill(
+        card, element('h2', {}, 'Tracks'),
+        ...shown.flatMap(([, slot]) => [trackTable(slot), fragmentTable(slot)]));
 }
 
 // A file's name without what stands behind its last point.

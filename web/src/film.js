@@ -110,6 +110,32 @@ export function lanesBefore(found) {
 }
 
 /**
+ * The movie fragments of lanes, in the order of the file: of each the offset of its `moof`, how many
+ * samples it has, when the first is decoded and the last ends, in seconds, their bytes, and whether
+ * it begins with a sync sample in each video track, or without one in each track.
+ */
+export function fragmentsOf(lanes) {
+    const found = new Map();
+    const hasVideo = lanes.some(lane => lane.handler === 'vide');
+    for (const lane of lanes) {
+        const { samples } = lane, leads = !hasVideo || lane.handler === 'vide';
+        for (const { first, count, moof } of lane.pieces) {
+            if (first + count > samples.count) continue;
+            const own = found.get(moof) ?? { moof, samples: 0, bytes: 0, from: Infinity, to: 0, isSync: true };
+            const last = first + count - 1, start = Number(lane.start);
+            own.samples += count;
+            for (let k = first; k <= last; k += 1) own.bytes += samples.size[k];
+            own.from = Math.min(own.from, (start + samples.decode[first]) / lane.timescale);
+            own.to = Math.max(
+                own.to, (start + samples.decode[last] + samples.duration[last]) / lane.timescale);
+            own.isSync &&= !leads || isSync(samples.flags[first]);
+            found.set(moof, own);
+        }
+    }
+    return [...found.values()].sort((a, b) => Number(a.moof) - Number(b.moof));
+}
+
+/**
  * How many seconds later than by its own times a lane's samples are shown where its edits are
  * applied; null where these do more than delay it and cut it off.
  */

@@ -2,6 +2,8 @@
 // languages, and which samples a fragment holds. All that is read here is of a file that was
 // accepted, unless it says otherwise.
 
+import { entriesOf } from './entries.js';
+
 // How many lines a text has.
 function linesIn(text) {
     let count = 0;
@@ -98,8 +100,8 @@ export function letters(language) {
                   : `0x${language.toString(16).padStart(4, '0')}`;
 }
 
-// The tracks of a file by the boxes of its `moov`: ID, language, and how many samples its tables
-// have.
+// The tracks of a file by the boxes of its `moov`: ID, language, sample entries, and how many samples
+// its tables have.
 function heads(read, boxes) {
     const found = [];
     for (const box of boxes) {
@@ -110,16 +112,23 @@ function heads(read, boxes) {
         else if (box.type === 'tkhd') track.id = read.u32(at + (read.u32(at) >>> 24 ? 20 : 12));
         else if (box.type === 'mdhd')
             track.language = letters(read.u16(at + (read.u32(at) >>> 24 ? 32 : 20)));
+        else if (box.type === 'hdlr') track.handler = read.text(at + 8);
+        else if (box.type === 'stsd')
+            track.stsd = { at, end: Number(box.offset) + Number(box.size) };
         else if (box.type === 'stsz' || box.type === 'stz2') track.inTables = read.u32(at + 8);
+    }
+    for (const track of found) {
+        const { stsd, handler } = track;
+        track.entries = stsd ? entriesOf(read, stsd.at, stsd.end, handler) : [];
     }
     return found;
 }
 
 /**
- * Languages and fragments of an accepted file, of which `boxes` are all. Of each track, in their
- * order: its ID, its language, how many samples stand in its tables, and its `pieces`, which are
- * the samples of each `traf` that has some: the number of the first one, from 0, how many, and
- * where its `moof` begins.
+ * Languages, sample entries and fragments of an accepted file, of which `boxes` are all. Of each
+ * track, in their order: its ID, its language, what its sample entries say (`entriesOf`), how many
+ * samples stand in its tables, and its `pieces`, which are the samples of each `traf` that has some:
+ * the number of the first one, from 0, how many, and where its `moof` begins.
  */
 export function outline(bytes, boxes) {
     const read = reader(bytes);
@@ -139,7 +148,8 @@ export function outline(bytes, boxes) {
             track.next += count;
         }
     }
-    return tracks.map(({ id, language, inTables, pieces }) => ({ id, language, inTables, pieces }));
+    return tracks.map(
+        ({ id, language, entries, inTables, pieces }) => ({ id, language, entries, inTables, pieces }));
 }
 
 // The containers that are opened, where each has to lie (docs/FORMAT.md, "Boxes").

@@ -44,7 +44,7 @@ export function learn(slot, part) {
     if (part.part === 'tracks') Object.assign(slot, { show: part.show, outline: part.outline });
     if (part.part === 'samples') slot.samples = part.samples;
     if (part.part === 'cuts') slot.cuts = part.cuts;
-    if (part.part === 'samples' || part.part === 'cuts') slot.lanes = null;
+    if (part.part === 'samples' || part.part === 'cuts') slot.lanes = slot.fragments = null;
 }
 
 /**
