@@ -1,5 +1,5 @@
 -- How many boxes are free space in a copy, for each name in turn.
-use Rattle.std.proofs.Common.{◌≡◌, ℕ, zero, suc, ◌+◌, ◌-◌, ◌^◌, ◌<◌, ◌≤◌, min, List, [], ◌∷◌, ◌++◌, length, take, drop, replicate, slice_index_or, slice_set, Bool, true, false, cond, ◌||◌, Option, None, Some, Ok, refl, sym, ap, subst, ◌∙◌, arith, rules, length-drop}
+use Rattle.std.proofs.Common.{◌≡◌, ℕ, zero, suc, ◌+◌, ◌-◌, ◌^◌, ◌<◌, ◌≤◌, min, List, [], ◌∷◌, ◌++◌, length, take, drop, replicate, slice_index_or, slice_set, Bool, true, false, cond, ◌||◌, Option, None, Some, Ok, refl, sym, ap, subst, ◌∙◌, arith, length-drop}
 use Rattle.std.proofs.lemmas.List.{take_all, take-append-le}
 use Rattle.std.specs.List.{list_any}
 use Rattle.mp4_store.specs.words.Device.{range}
@@ -54,13 +54,6 @@ module _ (rule : Rule) (kind : List ℕ) (uuid : Option (List ℕ)) where
 
   both : (a b : Bool) → a ≡ false → b ≡ false → (a || b) ≡ false
   both a b e f = rw (e, f) refl
-
-  pub none_further : (k : ℕ) (names : List Name) (d : Name) → k < length names → means rule kind uuid (slice_index_or names k d) ≡ false → NoneBefore k names → NoneBefore (suc k) names
-  none_further k [] d lt h e = absurd (search rules)
-  none_further zero (n ∷ names) d lt h e = both (means rule kind uuid n) false h refl
-  none_further (suc k) (n ∷ names) d lt h e =
-      let parts = neither (means rule kind uuid n) (list_any (means rule kind uuid) (take k names)) e in
-      both (means rule kind uuid n) (list_any (means rule kind uuid) (take (suc k) names)) parts.0 (none_further k names d (omega arith) h parts.1)
 
   pub first_counted : (k : ℕ) (names : List Name) (counts : List ℕ) (d : Name) (n : ℕ) → k < length names → k < length counts → means rule kind uuid (slice_index_or names k d) ≡ true → NoneBefore k names
       → n ≡ min (slice_index_or counts k 0 + 1) (2 ^ 64 - 1) → slice_set counts k n ≡ counts_on counts (first_meant rule kind uuid names)

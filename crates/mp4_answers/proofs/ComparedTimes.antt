@@ -1,8 +1,7 @@
 -- Lines of differences along with decode times, and how these stay where tracks are told to wait.
-use Rattle.std.proofs.Common.{◌≡◌, ℕ, zero, suc, ◌+◌, ◌<◌, ◌≤◌, Bool, true, false, List, [], ◌∷◌, ◌++◌, length, take, drop, refl, sym, ap, ◌∙◌, append_assoc}
+use Rattle.std.proofs.Common.{◌≡◌, ℕ, zero, suc, ◌+◌, ◌<◌, Bool, true, false, List, [], ◌∷◌, ◌++◌, length, take, drop, refl, sym, ap, ◌∙◌, append_assoc}
 use Rattle.std.specs.Prelude.{Option, map, flat_map, slice_get, slice_index_or, nat_le}
-use Rattle.std.proofs.lemmas.List.{append-nil, drop-drop}
-use Rattle.mp4_boxes.proofs.Plain.{drop_all}
+use Rattle.std.proofs.lemmas.List.{drop-drop}
 use Rattle.mp4_present.specs.format.Presentation.{Track, Presentation}
 use Rattle.mp4_present.specs.format.Waiting.{waiting_tracks}
 use Rattle.mp4_content.specs.format.DecodeTimes.{decode_time, decode_times, numbered, time_at}
@@ -41,10 +40,6 @@ module _ (form : LineForm) (times : List (Option DecodeTime)) (ds : List Differe
       ∙ (λ i. now ++ (difference_in form (at i) d ++ more))
       ∙ (λ i. now ++ (line ++ lines_with form (sym (drop-drop 1 k times) i) (drop (k + 1) ds)))
       ∙ (λ i. now ++ lines_with form (drop k times) (sym (drop_at ds k d lt e) i)) ∙ h
-
-  pub lines_whole : (k : ℕ) (now whole : List ℕ) → length ds ≤ k → LinesGo k now whole → now ≡ whole
-  lines_whole k now whole le h =
-      sym (append-nil now) ∙ (λ i. now ++ lines_with form (drop k times) (sym (drop_all ds k le) i)) ∙ h
 
 -- ---- the decode times are those of a presentation
 

@@ -3,7 +3,6 @@ use Rattle.std.proofs.Common.{◌≡◌, ℕ, zero, suc, ◌+◌, ◌-◌, ◌*�
 use Rattle.std.proofs.lemmas.Fmt.{decimal_step_wide, length-decimal-le_wide}
 use Rattle.std.proofs.Math.Nat.{pow-suc, div-div-eq-div-mul}
 use lib.Ieee.Fits.{and_l, and_r}
-use Rattle.mp4_answers.specs.format.Texts.{hex_digits}
 use Rattle.mp4_answers.specs.words.Pairs.{pair}
 use Rattle.mp4_answers.specs.declared.text.digits.TheConstants.{PAIRS}
 
@@ -48,10 +47,6 @@ length_short n h = length-decimal-le_wide 10 n (omega arith) (omega arith) (omeg
 
 pub length_long : (n : ℕ) → n < 2 ^ 64 → length (decimal n) ≤ 20
 length_long n h = length-decimal-le_wide 20 n (omega arith) (omega arith) (omega arith)
-
-pub length-hex : (k n : ℕ) → length (hex_digits k n) ≡ k
-length-hex zero n = refl
-length-hex (suc k) n = let e = length-hex k n in omega arith
 
 -- what is left of a number without its last hexadecimal digits
 pub sixteenth : (n k : ℕ) → n / 16 ^ k / 16 ≡ n / 16 ^ (k + 1)

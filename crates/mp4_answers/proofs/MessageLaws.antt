@@ -216,11 +216,3 @@ module _ (bytes : List ℕ) (messages : List Message) where
         | inr above ↦ (let left = begins.left in inr (l, lt, omega (arith, left, some_blocks), begins.owner_is ∙ omega (arith, above, more)))
       ];
     }
-
-  -- when all lanes are free, each has its digest
-  pub all_found : (known : ℕ) (state : List (List ℕ)) (lanes : Lanes) (digests : List (List ℕ)) → ((l : ℕ) → l < 4 → slice_index lanes.lefts l ≡ 0) → AreHeld bytes messages known state lanes digests
-      → (k : ℕ) → k < known → IsFound bytes messages digests k
-  all_found known state lanes digests free held k lt = elim (held.found k lt) [
-    | inl found ↦ found
-    | inr in_lane ↦ (let none = free in_lane.0 in_lane.1 in let some = in_lane.2 in absurd (omega (arith, none, some)))
-  ]

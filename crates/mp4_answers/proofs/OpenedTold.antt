@@ -271,9 +271,6 @@ module _ (s : Selection) (file : List ℕ) (m : MovieSeen) (tree : FileTree) (o 
   pub limits_told : RemainsInLimits (words_told l) (presentation_of file tree) → IsLeftInLimits l o.p
   limits_told r = record { shown = shown_limits; left = subst (RemainsInLimits (words_told l)) o.says r }
 
-  pub limits_back : IsLeftInLimits l o.p → RemainsInLimits (words_told l) (presentation_of file tree)
-  limits_back k = subst (RemainsInLimits (words_told l)) (sym o.says) k.left
-
   pub form_told : RemainsInLimits (words_told l) (presentation_of file tree) → HasReducedForm s file (normal (remaining (words_told l) (presentation_of file tree)))
   form_told r = (o.p, shows_told, limits_told r, ap normal left_is)
 

@@ -1,5 +1,5 @@
 -- Names as the system has them.
-use Rattle.std.proofs.Common.{◌≡◌, ◌∙◌, ℕ, zero, suc, ◌+◌, ◌-◌, ◌*◌, ◌<◌, ◌≤◌, List, [], ◌∷◌, ◌++◌, length, length-drop, take, drop, get_or, refl, sym, ap, arith, append_assoc}
+use Rattle.std.proofs.Common.{◌≡◌, ℕ, zero, suc, ◌+◌, ◌-◌, ◌*◌, ◌<◌, ◌≤◌, List, [], ◌∷◌, length, length-drop, take, drop, get_or, refl, arith}
 use Rattle.std.proofs.lemmas.List.{take_all}
 use Rattle.mp4_answers.specs.format.SumLines.{digit_value, plain_name}
 
@@ -21,8 +21,3 @@ plain_none (b ∷ word) e = absurd (omega (arith, e))
 -- all that is left behind two digits
 pub behind_two : (rest : List ℕ) → take (length rest - 2) (drop 2 rest) ≡ drop 2 rest
 behind_two rest = take_all (length rest - 2) (drop 2 rest) (omega (arith, length-drop 2 rest))
-
--- one more byte is added
-pub plain_more : (start word text text' : List ℕ) (byte : ℕ) (left more : List ℕ) → start ++ plain_name word ≡ text ++ plain_name left → text' ≡ text ++ byte ∷ [] → plain_name left ≡ byte ∷ plain_name more → start ++ plain_name word ≡ text' ++ plain_name more
-plain_more start word text text' byte left more on e f =
-    on ∙ ap (λ (xs : List ℕ). text ++ xs) f ∙ sym (append_assoc text (byte ∷ []) (plain_name more)) ∙ ap (λ (xs : List ℕ). xs ++ plain_name more) (sym e)

@@ -81,11 +81,6 @@ module _ (A : Type 0) (r : Run) (IsText : List ℕ → Type 0) (IsFault : Fault 
 
   -- ---- an answer
 
-  pub answers : (answer : Result A Refusal) → OnOk answer (r.reads_after ≡ r.reads) → OnOk answer (r.puts_after ≡ r.puts) → OnOk answer (Honest r → PutsAll r IsText) → IfErr answer (λ e. Answered {A = A} r IsText IsFault Lacks (Err e))
-      → Answered r IsText IsFault Lacks answer
-  answers (Ok x) reads puts text e = ((reads, puts), text)
-  answers (Err e) reads puts text w = w
-
   -- of samples that are copied
   pub copy_answers : (answer : Result A Refusal) → OnOk answer (r.reads_after ≡ r.reads) → OnOk answer (r.puts_after ≡ r.puts) → OnOk answer (Honest r → PutsAll r IsText)
       → IfErr answer (RefusesCopy r.took r.reads r.reads_after r.puts r.puts_after) → (Honest r → OnErr answer (PutsFront r IsText)) → (Honest r → IfErr answer (λ e. e ≡ refusals.StoreChanged → ⊥))

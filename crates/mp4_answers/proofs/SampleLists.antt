@@ -8,10 +8,8 @@ use Rattle.mp4_store.specs.words.Device.{TakesPrefix, range}
 use Rattle.mp4_store.proofs.Known.{TakesPrefix-longer}
 use Rattle.mp4_tables.specs.declared.sample.SampleAt.{SampleAt}
 use Rattle.mp4_present.specs.words.Carried.{BytesGoOn}
-use Rattle.mp4_present.specs.words.Joined.{IsBelow}
 use Rattle.mp4_present.proofs.Carrying.{BytesGoOn-front}
 use Rattle.mp4_answers.specs.words.Messages.{IsFound, IsReady, block_count, message_at, message_of, no_message}
-use Rattle.mp4_answers.specs.words.PrintedTracks.{LieBelow}
 use Rattle.mp4_answers.specs.words.SampleMessages.{AreReadyTo, HaveBytesOf, no_sample, sample_at, told_lines}
 use Rattle.mp4_answers.specs.words.ToldSamples.{told_line, told_sample}
 use Rattle.mp4_answers.specs.declared.digests.messages.Message.{Message}
@@ -68,12 +66,6 @@ module _ (a b : List ℕ) (messages : List Message) (count : ℕ) (m : Message) 
 
   pub bytes_more : (file : List ℕ) (samples : List SampleAt) → HaveBytesOf file a messages samples count → message_of b m ≡ range file (sample_at samples count).at (sample_at samples count).size → HaveBytesOf file b more samples (count + 1)
   bytes_more file samples have own = by_place (λ k x. message_of b x ≡ range file (sample_at samples k).at (sample_at samples k).size) (λ k lt. kept_message a b (message_at messages k) m.start (before k lt) front ∙ have k lt) own
-
--- a sample among those that lie in a file does
-pub lies_at : (n : ℕ) (samples : List SampleAt) (k : ℕ) → k < length samples → LieBelow n samples → IsBelow n (sample_at samples k)
-lies_at n [] k lt lie = absurd (omega (arith, lt))
-lies_at n (x ∷ samples) zero lt lie = lie.0
-lies_at n (x ∷ samples) (suc k) lt lie = lies_at n samples k (omega (arith, lt)) lie.1
 
 -- ---- lines
 

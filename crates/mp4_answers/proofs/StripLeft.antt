@@ -180,10 +180,6 @@ not_there : (o : Option Rule) (inner : Rule) → o ≡ None → o ≡ Some inner
 not_there None inner p q = cc
 not_there (Some r) inner p q = cc
 
-abbrev rule_or : Rule → Option Rule → Rule
-rule_or d None = d
-rule_or d (Some r) = r
-
 -- free space is no container
 nothing_in_free : (rule : Rule) → rule_inside rule (codes "free") ≡ None
 nothing_in_free File = refl

@@ -1,6 +1,6 @@
 -- Texts that are taken along to a sink, one after the other.
 use Rattle.std.proofs.Common.{◌≡◌, ℕ, zero, suc, ◌+◌, ◌<◌, ◌≤◌, List, [], ◌∷◌, ◌++◌, true, false, length, take, get_or, refl, sym, ap, subst, ◌∙◌, append_assoc, arith}
-use Rattle.std.specs.Prelude.{map, flat_map, Result, Ok, Err}
+use Rattle.std.specs.Prelude.{map, flat_map, Ok, Err}
 use Rattle.std.proofs.lemmas.List.{append-nil}
 use Rattle.mp4_boxes.specs.declared.refusal.Refusal.{Refusal}
 use Rattle.mp4_boxes.specs.declared.refusal.Refusal.TheVariants as refusals
@@ -62,13 +62,6 @@ module _ {Y : Type 0} (K : Sink Y) (joins : IsJoining K.takes) where
     puts = tt;
     refusal = subst (λ (n : ℕ). RefusesPut n (K.put_failures u) v) p.puts cause;
   }
-
-  -- it goes on with a text, and then as it is
-  pub told_last : {T : Type 0} (s t u : Y) (c d e : OutBuffer) (done x whole : List ℕ) (r : Result T Refusal) → ToldSoFar K s t c d done → Tells K t u d e x r → whole ≡ done ++ x → Tells K s u c e whole r
-  told_last s t u c d e done x whole (Ok v) p q w =
-      let m = told_more s t u c d e done x whole p q.all q.puts w in
-      record { all = m.told; front = tt; puts = m.puts; refusal = tt }
-  told_last s t u c d e done x whole (Err v) p q w = told_fails s t u c d e done x whole v p q.front q.refusal w
 
   -- it stops meanwhile
   pub told_stops : {B : Type 0} (s t u : Y) (c d e : OutBuffer) (done x more whole : List ℕ) (v : Refusal) → ToldSoFar K s t c d done → PutsFrontOf K t u d x → RefusesPut (K.put_failures t) (K.put_failures u) v → whole ≡ done ++ (x ++ more) → Tells {T = B} K s u c e whole (Err v)

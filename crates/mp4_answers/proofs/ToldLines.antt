@@ -1,21 +1,21 @@
 -- The lines of samples as they are handed out are those of the presentation's samples.
-use Rattle.std.proofs.Common.{◌≡◌, ℕ, zero, suc, ◌+◌, ◌<◌, ◌≤◌, Bool, true, false, List, [], ◌∷◌, ◌++◌, length, Some, refl, sym, ap, ◌∙◌, arith, append_assoc, decimal}
-use Rattle.std.specs.Prelude.{map, flat_map, slice_index, slice_get, if◌then◌else◌}
+use Rattle.std.proofs.Common.{◌≡◌, ℕ, ◌+◌, ◌<◌, Bool, true, false, List, [], ◌∷◌, ◌++◌, length, Some, refl, sym, ap, ◌∙◌, arith, append_assoc, decimal}
+use Rattle.std.specs.Prelude.{map, flat_map, slice_get, if◌then◌else◌}
 use Rattle.std.specs.Fmt.{signed_decimal}
-use Rattle.std.specs.List.{AllByRecursion, list_any, position_from}
-use Rattle.std.proofs.lemmas.Bool.{eqb-true, ne_eqb, or_from}
+use Rattle.std.specs.List.{AllByRecursion}
+use Rattle.std.proofs.lemmas.Bool.{ne_eqb}
 use Rattle.sha2.specs.Sha256.{sha256}
 use Rattle.mp4_boxes.proofs.Each.{each_weaker}
 use Rattle.mp4_boxes.proofs.Plain.{get_zip, plus_one}
 use Rattle.mp4_store.specs.words.Device.{range}
-use Rattle.mp4_tables.specs.format.Groups.{GroupKey, Groups, key_rank, same_key, index_at}
+use Rattle.mp4_tables.specs.format.Groups.{GroupKey, Groups, key_rank, index_at}
 use Rattle.mp4_tables.specs.format.PlainSamples.{PlacedSample}
 use Rattle.mp4_tables.specs.words.Keys.{keys_seen, key_place}
-use Rattle.mp4_tables.specs.words.Timed.{padded, indexes, place_of, sample_at, timed}
+use Rattle.mp4_tables.specs.words.Timed.{indexes, place_of, sample_at, timed}
 use Rattle.mp4_tables.specs.declared.keys.Keys.{Keys}
 use Rattle.mp4_tables.specs.declared.sample.SampleAt.{SampleAt}
 use Rattle.mp4_tables.proofs.GroupMaps.{order_test}
-use Rattle.mp4_tables.proofs.NamedKeys.{IsAmong, IsNone, among_through, same_itself}
+use Rattle.mp4_tables.proofs.NamedKeys.{IsAmong, among_through, same_itself}
 use Rattle.mp4_tables.proofs.Placed as placed
 use Rattle.mp4_head.specs.format.Tree.{TrackTree}
 use Rattle.mp4_present.specs.format.Denotes.{FileTree, bytes_at, sample_of, file_parts, placed_of, track_of}
@@ -31,7 +31,6 @@ use Rattle.mp4_present.specs.words.SamplesComing.{track_keys, track_samples}
 use Rattle.mp4_content.specs.declared.reduced.Reduction.{Reduction}
 use Rattle.mp4_content.specs.declared.without.Without.{Without}
 use Rattle.mp4_present.specs.declared.track_info.TrackInfo.{TrackInfo}
-use Rattle.mp4_content.proofs.ComparisonGroups.{index_rank}
 use Rattle.mp4_present.proofs.SamplesLie.{bytes_whole, there}
 use Rattle.mp4_content.proofs.ReducedTaken.{remaining_from}
 use Rattle.mp4_content.proofs.SamplesReduced.{reduced_by}
@@ -46,23 +45,6 @@ use Rattle.mp4_answers.specs.format.Texts.{hex_digits, hex_text, space, line_fee
 use Rattle.mp4_answers.specs.words.ToldSamples.{IsStyle, index_text, told_indexes, told_sample}
 use Rattle.mp4_answers.specs.declared.text.sample_texts.SampleStyle.{SampleStyle}
 use Rattle.mp4_content.proofs.SamplesDiffer.{AreKeysOf, IsSampleOf, index_there, opened_samples}
-
--- ---- an index at a key, by its place among the keys of the track
-
-module _ (key : GroupKey) (groups : Groups) where
-  place_from : (keys : List GroupKey) (m n : ℕ) (ys : List ℕ) → length keys ≤ m → ((j : ℕ) → slice_index ys (n + j) ≡ slice_index (padded m (map (λ (k : GroupKey). index_at k groups) keys)) j) → (IsNone keys key → index_at key groups ≡ 0)
-      → index_in (position_from (same_key key) n keys) ys ≡ index_at key groups
-  place_from [] m n ys le at none = sym (none refl)
-  place_from (k ∷ keys) zero n ys le at none = absurd (omega (arith, le))
-  place_from (k ∷ keys) (suc m) n ys le at none = by (same_key key k) refl (λ no. place_from keys m (n + 1) ys (omega (arith, le)) more no)
-    where
-      more : (j : ℕ) → slice_index ys (n + 1 + j) ≡ slice_index (padded m (map (λ (x : GroupKey). index_at x groups) keys)) j
-      more j = let e : n + 1 + j ≡ n + suc j = omega arith in ap (slice_index ys) e ∙ at (suc j)
-
-      by : (v : Bool) → same_key key k ≡ v → ((IsNone keys key → index_at key groups ≡ 0) → index_in (position_from (same_key key) (n + 1) keys) ys ≡ index_at key groups)
-          → index_in (if v then Some n else position_from (same_key key) (n + 1) keys) ys ≡ index_at key groups
-      by true e behind = let here : n ≡ n + 0 = omega arith in ap (slice_index ys) here ∙ at 0 ∙ index_rank groups k key (sym (eqb-true (key_rank key) (key_rank k) e))
-      by false e behind = behind (λ no. none (or_from (same_key key k) (list_any (same_key key) keys) e no))
 
 -- ---- the indexes of a sample at the keys of its track, in their order
 

@@ -1,5 +1,5 @@
 -- The way to a place of a file.
-use Rattle.std.proofs.Common.{◌≡◌, ◌⊎◌, inl, inr, ℕ, ◌+◌, ◌-◌, ◌≤◌, true, List, [], ◌∷◌, ◌++◌, length, drop, Err, refl, sym, ap, subst, ◌∙◌, arith, append_assoc, length-drop}
+use Rattle.std.proofs.Common.{◌≡◌, ◌⊎◌, inl, inr, ℕ, ◌+◌, ◌-◌, ◌≤◌, true, List, [], ◌∷◌, ◌++◌, length, drop, Err, sym, ap, subst, ◌∙◌, arith, append_assoc, length-drop}
 use Rattle.std.specs.Prelude.{Bool, IsTrue, Option, codes}
 use Rattle.std.proofs.lemmas.List.{append-nil}
 use Rattle.mp4_boxes.specs.format.Box.{Box, Header, header_at}
@@ -22,9 +22,6 @@ use Rattle.mp4_answers.proofs.StripCopies.{same_header}
 pub record Passed (all left : List Box) : Type 0 where
   pub passed : List Box
   pub whole : passed ++ left ≡ all
-
-pub passed_none : (all : List Box) → Passed all all
-passed_none all = record { passed = []; whole = refl }
 
 pub passed_more : (all left left' : List Box) (b : Box) → Passed all left → left ≡ b ∷ left' → Passed all left'
 passed_more all left left' b p e = record {

@@ -4,14 +4,13 @@ use Rattle.std.specs.Prelude.{not, ◌&&◌, nat_lt}
 use Rattle.std.specs.List.{AllByRecursion, list_any}
 use Rattle.std.proofs.lemmas.Bool.{ltb-true, ltb-false}
 use Rattle.mp4_boxes.specs.format.Bytes.{field}
-use Rattle.mp4_boxes.specs.format.Box.{Box, Header, Container, Tiles, to_end_of_box, counted, header_at, box_of, sizes, first_boxes, box_container, counted_container, StandsAfter}
+use Rattle.mp4_boxes.specs.format.Box.{Box, Header, Container, Tiles, to_end_of_box, counted, header_at, box_of, sizes, first_boxes, box_container, counted_container}
 use Rattle.mp4_boxes.specs.format.BoxFaults.{IsHeaderFault, header_there, type_of, unreadable}
 use Rattle.mp4_boxes.specs.format.Children.{Line, Quantity, one, at_most_one, any, IsQuantity, Holds, table, is_among, allows, repeats, lacks, is_single, is_needed, count_among}
 use Rattle.mp4_boxes.specs.declared.rule.Rule.{Rule}
 use Rattle.mp4_boxes.specs.declared.fault.Fault.{Fault}
 use Rattle.mp4_boxes.proofs.Among.{all_append, count-append}
 use Rattle.mp4_boxes.proofs.Walking.{Passed, passed_more, passed_more-boxes, passed_boxes, passed_tiles, located_err}
-use Rattle.mp4_boxes.proofs.Tiling.{lies_push}
 use Rattle.mp4_boxes.proofs.Plain.{not_is_false, or_is_false}
 
 -- ---- the boxes of a box
@@ -126,14 +125,3 @@ admitted_holds rule b base bytes count at e f a le whole =
       allowed = rw s a.allowed;
       quantities = rw s (quantities_are (table rule) a.passed.boxes a.few w);
     }
-
--- the box that was read stands in the container
-stands_there : (b : Box) (base : ℕ) (bytes : List ℕ) (count at : ℕ) (h : Header) → base ≡ b.offset + b.header → bytes ≡ b.payload → (p : Passed base bytes count at) → header_at false (drop at bytes) ≡ Ok h
-    → (next : Box) × (◌≡◌ {A = Box} next (box_of (base + at) (drop at bytes) h)) × StandsAfter (box_container b) p.boxes next
-stands_there b base bytes count at h e f p r =
-    let t = p.taken in
-    let read : header_at false (drop (sizes p.boxes) bytes) ≡ Ok h = ap (λ (k : ℕ). header_at false (drop k bytes)) t ∙ r in (
-      box_of (base + sizes p.boxes) (drop (sizes p.boxes) bytes) h,
-      ap (λ (n : ℕ). box_of (base + n) (drop n bytes) h) t,
-      as_box (λ (c : Container). StandsAfter c p.boxes (box_of (base + sizes p.boxes) (drop (sizes p.boxes) bytes) h)) b base bytes e f (lies_push false base bytes p.boxes h p.lie read, tt),
-    )

@@ -1,15 +1,12 @@
 -- Lists of differences, grown value after value and entry after entry.
 use Rattle.std.proofs.Common.{◌≡◌, ℕ, zero, suc, ◌+◌, ◌-◌, ◌<◌, ◌≤◌, ◌⊎◌, inl, inr, min, Bool, true, false, if◌then◌else◌, List, [], ◌∷◌, ◌++◌, length, drop, take, slice_index_or, Option, None, Some, refl, sym, ap, subst, ◌∙◌, arith, append_assoc}
 use Rattle.std.specs.Prelude.{map, ◌==◌}
-use Rattle.std.proofs.lemmas.List.{append-nil, length-map, drop-drop, take-append-drop}
-use Rattle.std.proofs.lemmas.Bool.{eq-eqb, ne_eqb, cases_lt}
+use Rattle.std.proofs.lemmas.List.{append-nil, drop-drop, take-append-drop}
+use Rattle.std.proofs.lemmas.Bool.{eq-eqb, cases_lt}
 use Rattle.mp4_boxes.proofs.Plain.{drop_all, plus_one, some_is}
 use Rattle.mp4_store.specs.words.Device.{range}
-use Rattle.mp4_content.specs.format.Differences.{numbers_differ, first_unequal, each_differ, list_differences}
+use Rattle.mp4_content.specs.format.Differences.{first_unequal, each_differ}
 use Rattle.mp4_content.specs.declared.comparing.differences.Difference.{Difference}
-use Rattle.mp4_content.specs.declared.comparing.differences.Subject.{Subject}
-use Rattle.mp4_content.specs.declared.comparing.differences.Entries.{Entries}
-use Rattle.mp4_content.specs.declared.comparing.differences.Field.TheVariants as fields
 
 -- what was found, and then more
 pub and_then : (old mid new a b : List Difference) → mid ≡ old ++ a → new ≡ mid ++ b → new ≡ old ++ (a ++ b)
@@ -79,18 +76,11 @@ module _ {A B : Type 0} (g : A → B) (one : ℕ → B → B → List Difference
   pub goes_whole : (k : ℕ) (now whole : List Difference) → (length xs ≤ k) ⊎ (length ys ≤ k) → Goes k now whole → now ≡ whole
   goes_whole k now whole le h = sym (append-nil now) ∙ ap (λ (ds : List Difference). now ++ ds) (sym (none_left k le)) ∙ h
 
-  pub goes_first : (of : Subject) (list : Entries) (old now : List Difference) → now ≡ old ++ numbers_differ of (fields.Count list) (length xs) (length ys)
-      → Goes 0 now (old ++ list_differences of list one (map g xs) (map g ys))
-  goes_first of list old now e = rw (length-map xs g, length-map ys g) (rw e (append_assoc old (numbers_differ of (fields.Count list) (length xs) (length ys)) (each_differ one 1 (map g xs) (map g ys))))
-
 -- ---- bytes
 
 -- a byte that is the same is passed
 pub same_byte : (n x y : ℕ) (xs ys : List ℕ) → x ≡ y → first_unequal n (x ∷ xs) (y ∷ ys) ≡ first_unequal (suc n) xs ys
 same_byte n x y xs ys e = rw (eq-eqb x y e) refl
-
-pub other_byte : (n x y : ℕ) (xs ys : List ℕ) → (x ≡ y → ⊥) → first_unequal n (x ∷ xs) (y ∷ ys) ≡ Some (n, x, y)
-other_byte n x y xs ys e = rw (ne_eqb x y e) refl
 
 -- the same bytes differ nowhere
 pub nowhere : (n : ℕ) (xs : List ℕ) → first_unequal n xs xs ≡ None
@@ -99,11 +89,6 @@ nowhere n (x ∷ xs) = same_byte n x x xs xs refl ∙ nowhere (suc n) xs
 
 pub nowhere_same : (n : ℕ) (xs ys : List ℕ) → xs ≡ ys → None ≡ first_unequal n xs ys
 nowhere_same n xs ys e = sym (ap (λ (zs : List ℕ). first_unequal n zs ys) e ∙ nowhere n ys)
-
-pub byte_found : (k x y : ℕ) (xs ys : List ℕ) (whole : Option (ℕ × ℕ × ℕ)) → k < length xs → k < length ys → x ≡ slice_index_or xs k x → y ≡ slice_index_or ys k y → (x ≡ y → ⊥)
-    → first_unequal k (drop k xs) (drop k ys) ≡ whole → Some (k, x, y) ≡ whole
-byte_found k x y xs ys whole lx ly ex ey e h =
-    sym (other_byte k x y (drop (suc k) xs) (drop (suc k) ys) e) ∙ sym (λ i. first_unequal k (at_drop xs k x lx ex i) (at_drop ys k y ly ey i)) ∙ h
 
 -- ---- parts of a file
 

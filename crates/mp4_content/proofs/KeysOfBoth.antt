@@ -3,11 +3,11 @@ use Rattle.std.proofs.Common.{◌≡◌, ℕ, zero, suc, ◌+◌, ◌^◌, ◌<�
 use Rattle.std.specs.Prelude.{map, flat_map, IfSome}
 use Rattle.std.specs.List.{AllByRecursion, list_any}
 use Rattle.std.proofs.lemmas.List.{map-append, take-append-drop}
-use Rattle.std.proofs.lemmas.Bool.{lt-ltb, ltb-true, eqb-true, eq-eqb, ne_eqb, or_cases, or_left, or_from, cases_lt}
+use Rattle.std.proofs.lemmas.Bool.{lt-ltb, ltb-true, eqb-true, eq-eqb, ne_eqb, or_cases, or_from, cases_lt}
 use Rattle.mp4_boxes.specs.format.Bytes.{field}
 use Rattle.mp4_boxes.proofs.Plain.{drop_all, take_everything}
 use Rattle.mp4_tables.specs.format.Groups.{GroupKey, key_rank, parameter_rank, same_key}
-use Rattle.mp4_tables.proofs.NamedKeys.{IsAmong, IsNone, among_more, among_first}
+use Rattle.mp4_tables.proofs.NamedKeys.{IsAmong, IsNone}
 use Rattle.mp4_tables.proofs.Placed.{IsKey}
 use Rattle.mp4_tables.specs.words.Keys.{key_seen}
 use Rattle.mp4_tables.specs.declared.keys.GroupKey.{GroupKey as KeyNamed}
@@ -80,46 +80,9 @@ abbrev pub AreRising : List GroupKey → Type 0
 AreRising [] = Unit {0}
 AreRising (key ∷ keys) = KeysAbove key keys × AreRising keys
 
--- a key stands before the first, is it, or goes behind it
-with_cases : (P : List GroupKey → Type 0) (key first : GroupKey) (keys : List GroupKey) → (key_rank key < key_rank first → P (key ∷ first ∷ keys)) → (key_rank key ≡ key_rank first → P (first ∷ keys))
-    → (key_rank first < key_rank key → P (first ∷ with_key keys key)) → P (with_key (first ∷ keys) key)
-with_cases P key first keys below same above = elim (cases_lt (key_rank key) (key_rank first)) [
-  | inl lt ↦ subst P (sym (below_first key first keys lt)) (below lt)
-  | inr ge ↦
-      elim (cases_lt (key_rank first) (key_rank key)) [
-        | inl gt ↦ subst P (sym (above_first key first keys gt)) (above gt)
-        | inr le ↦ let e : key_rank key ≡ key_rank first = omega (arith, ge, le) in subst P (sym (as_first key first keys e)) (same e)
-      ]
-]
-
 pub above_above : (low key : GroupKey) (keys : List GroupKey) → key_rank low < key_rank key → KeysAbove key keys → KeysAbove low keys
 above_above low key [] l h = tt
 above_above low key (other ∷ keys) l h = (omega (arith, l, h.0), above_above low key keys l h.1)
-
-with_above : (low key : GroupKey) (keys : List GroupKey) → key_rank low < key_rank key → KeysAbove low keys → KeysAbove low (with_key keys key)
-with_above low key [] l h = (l, tt)
-with_above low key (first ∷ keys) l h = with_cases (KeysAbove low) key first keys (λ lt. (l, h)) (λ e. h) (λ gt. (h.0, with_above low key keys l h.1))
-
-with_rising : (key : GroupKey) (keys : List GroupKey) → AreRising keys → AreRising (with_key keys key)
-with_rising key [] h = (tt, tt)
-with_rising key (first ∷ keys) h = with_cases AreRising key first keys (λ lt. ((lt, above_above key first keys lt h.0), h)) (λ e. h) (λ gt. (with_above first key keys gt h.0, with_rising key keys h.1))
-
-with_each : (P : GroupKey → Type 0) (key : GroupKey) (keys : List GroupKey) → P key → AllByRecursion P keys → AllByRecursion P (with_key keys key)
-with_each P key [] p h = (p, tt)
-with_each P key (first ∷ keys) p h = with_cases (AllByRecursion P) key first keys (λ lt. (p, h)) (λ e. h) (λ gt. (h.0, with_each P key keys p h.1))
-
-with_there : (key : GroupKey) (keys : List GroupKey) → IsAmong (with_key keys key) key
-with_there key [] = among_first [] key
-with_there key (first ∷ keys) = with_cases (λ ks. IsAmong ks key) key first keys (λ lt. among_first (first ∷ keys) key)
-    (λ e. or_left (same_key key first) (list_any (same_key key) keys) (eq-eqb (key_rank key) (key_rank first) e)) (λ gt. among_more (with_key keys key) key first (with_there key keys))
-
-with_stays : (key x : GroupKey) (keys : List GroupKey) → IsAmong keys x → IsAmong (with_key keys key) x
-with_stays key x [] h = absurd cc
-with_stays key x (first ∷ keys) h = with_cases (λ ks. IsAmong ks x) key first keys (λ lt. among_more (first ∷ keys) x key h) (λ e. h)
-    (λ gt. elim (or_cases (same_key x first) (list_any (same_key x) keys) h) [
-      | inl s ↦ or_left (same_key x first) (list_any (same_key x) (with_key keys key)) s
-      | inr r ↦ among_more (with_key keys key) x first (with_stays key x keys r)
-    ])
 
 -- ---- a key is known by its rank
 

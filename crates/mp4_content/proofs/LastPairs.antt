@@ -69,10 +69,6 @@ module _ (by : Pairing) (file : List ℕ) (tree : FileTree) (t : TrackTree) (m :
   abbrev from : ℕ → List Difference
   from k = differ_from by file xs other ys k
 
-  -- none yet
-  pub last_first : (w v : Walk) → Comes file tree t m w xs → Comes other other_tree u n v ys → Goes 0 0 w v
-  last_first w v h k = record { comes = h; comes_right = k; is_last = record { within = omega arith; same = refl; differs = λ j e. absurd (omega (arith, e)) } }
-
   -- so many pairs more that are the same
   pub last_passed : (last k count : ℕ) (left left_after right right_after : TrackSide) (mid new : ℕ) → Shows file left.window → Shows other right.window → PassesSame by m left left_after n right right_after count mid new
       → Goes last k left.walk right.walk → Goes last (k + count) left_after.walk right_after.walk

@@ -353,9 +353,6 @@ module _ (l : Without) where
   pub scale_stays : l.timing ≡ false → (timescale : ℕ) → timescale_left l timescale ≡ timescale
   scale_stays e timescale = ap (λ (b : Bool). if b then 1000 else timescale) e
 
-  pub start_stays : l.timing ≡ false → l.origins ≡ false → (start : ℕ) → start_left l start ≡ start
-  start_stays e f start = (λ i. if e i then 0 else if l.origins then 0 else start) ∙ ap (λ (b : Bool). if b then 0 else start) f
-
   -- it is no larger
   pub start_less : (start : ℕ) → start_left l start ≤ start
   start_less start = by_case (λ n. n ≤ start) l.timing 0 (if l.origins then 0 else start) (some_length start) (by_case (λ n. n ≤ start) l.origins 0 start (some_length start) (no_longer start))

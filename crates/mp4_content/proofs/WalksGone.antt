@@ -67,27 +67,6 @@ module _ (m : MovieSeen) (begun w : Walk) (old mid : ℕ) (h : WentOn m begun w 
       let grows = h.grows in
       subst (λ (v : Walk). WentOn m begun v old after) (sym is) (record { mark = h.mark; grows = omega (arith, grows, more); ahead = h.ahead })
 
-  -- and goes on from there
-  pub went_then : (now : Walk) (after : ℕ) → WentOn m w now mid after → WentOn m begun now old after
-  went_then now after k =
-      let first = h.grows in
-      let second = k.grows in
-      record { mark = k.mark ∙ h.mark; grows = omega (arith, first, second); ahead = by h.ahead k.ahead }
-    where
-      by : Stays begun w ⊎ HasLoaded m begun w → Stays w now ⊎ HasLoaded m w now → Stays begun now ⊎ HasLoaded m begun now
-      by (inl s) (inl u) = inl (record { track = u.track ∙ s.track; next = u.next ∙ s.next; due = u.due ∙ s.due; left = u.left ∙ s.left; traf = u.traf ∙ s.traf; bytes = u.bytes ∙ s.bytes })
-      by (inl s) (inr l) = let same = s.next in let far = l.0 in inr (omega (arith, same, far), l.1)
-      by (inr l) (inl u) =
-          let far = l.0 in
-          let same = u.next in
-          inr (omega (arith, far, same), stays_holding m w now u l.1)
-      by (inr l) (inr k) = let first = l.0 in let second = k.0 in inr (omega (arith, first, second), k.1)
-
--- where there is a next one in hand, some are
-pub hand_has : (next : Option SampleAt) (xs : List SampleAt) → next ≡ slice_get xs 0 → (next ≡ None → ⊥) → 0 < length xs
-hand_has next [] e some = absurd (some e)
-hand_has next (x ∷ xs) e some = omega arith
-
 -- ---- a walk that marks where it stands
 
 pub marked_is : (w now : Walk) (n : ℕ) → now ≡ record w { mark = mark_of w n } → now.mark ≡ mark_of now n

@@ -11,7 +11,6 @@ use Rattle.mp4_present.specs.words.SamplesComing.{Comes, Loads, StandsBefore, sa
 use Rattle.mp4_present.specs.words.InHand.{Follows, IsPlaceOf, left_in_hand}
 use Rattle.mp4_present.specs.words.Movies.{MovieSeen, HandAt, InHandOf, tables_seen}
 use Rattle.mp4_tables.specs.words.TablesSeen.{CursorSeen as TableView}
-use Rattle.mp4_present.specs.words.OpenedMovie.{IsOpenedAs}
 use Rattle.mp4_present.specs.declared.walking.in_hand.InHand.{InHand}
 use Rattle.mp4_present.specs.declared.walking.in_hand.InHand.TheVariants as hands
 use Rattle.mp4_present.specs.declared.walking.in_hand.Place.{Place}
@@ -19,10 +18,6 @@ use Rattle.mp4_present.specs.declared.walking.in_hand.Place.TheVariants as place
 use Rattle.mp4_present.specs.declared.movie.TrackTables.{TrackTables}
 use Rattle.mp4_present.specs.declared.walking.Walk.{Walk}
 use Rattle.mp4_frag.specs.words.FragmentsSeen.{CursorSeen as TrafView}
-
--- Where some samples come for a walk, these do for a later one, whatever the file's tree is.
-abbrev pub StillComes : List ℕ → MovieSeen → Walk → Walk → Type 0
-StillComes file m begun w = (tree : FileTree) (t : TrackTree) (samples : List SampleAt) → IsOpenedAs file m tree → Comes file tree t m begun samples → Comes file tree t m w samples
 
 -- what a walk has in hand is one
 pub one_hand : (m : MovieSeen) (w : Walk) (a b : InHand) → InHandOf m w a → InHandOf m w b → left_in_hand a ≡ left_in_hand b

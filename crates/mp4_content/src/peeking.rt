@@ -36,9 +36,12 @@ pub fn peek_sample<S: Store, L: Ledger, M: Ledger>(
     ensures grows { steps.old.passed ≤ steps.new.passed }
     ensures looks { steps.new.looks ≡ steps.old.looks }
 {
-    let mut next = walk.in_hand(movie).peek();
-    while next.is_none() && walk.load(movie, store, steps)? {
-        next = walk.in_hand(movie).peek();
+    let next = walk.in_hand(movie).peek();
+    if next.is_some() {
+        return Ok(next);
     }
-    Ok(next)
+    if !walk.load(movie, store, steps)? {
+        return Ok(None);
+    }
+    Ok(walk.in_hand(movie).peek())
 }

@@ -68,9 +68,6 @@ none_to_come payload p none next = rows_done payload p none ∙ ap (runs_coming 
 
 -- ---- what the boxes of a `traf` say
 
-yes : (b : Bool) (x y : Reached) → b ≡ true → x ≡ cond b x y
-yes b x y e = rw e refl
-
 no : (b : Bool) (x y : Reached) → b ≡ false → y ≡ cond b x y
 no b x y e = rw e refl
 

@@ -1,5 +1,5 @@
 -- How many steps the check of a `moof` takes: by what its boxes say and the samples that were passed, and by its bytes.
-use Rattle.std.proofs.Common.{◌≡◌, ℕ, zero, suc, ◌+◌, ◌*◌, ◌≤◌, true, false, Bool, cond, List, [], ◌∷◌, length, drop, map, refl, ap, ◌∙◌, arith}
+use Rattle.std.proofs.Common.{◌≡◌, ℕ, zero, suc, ◌+◌, ◌*◌, ◌≤◌, true, false, Bool, List, [], ◌∷◌, length, drop, map, refl, ap, ◌∙◌, arith}
 use Rattle.std.specs.Prelude.{codes, bytes_eq, slice_index}
 use Rattle.mp4_boxes.specs.format.Bytes.{rows, sum_of, width_of}
 use Rattle.mp4_boxes.specs.format.Layout.{sbgp, row_count}
@@ -28,10 +28,6 @@ one_larger : (left later : List Box) (b : Box) → left ≡ b ∷ later → size
 one_larger left later b e = ap sizes e ∙ sizes-cons b later
 
 -- ---- sums over the boxes of a type
-
-no_more : (v : Bool) (f : Box → ℕ) (b : Box) (boxes : List Box) → sum_of f boxes ≤ sum_of f (cond v (b ∷ boxes) boxes)
-no_more true f b boxes = omega arith
-no_more false f b boxes = omega arith
 
 kept : (kind : List ℕ) (b : Box) (boxes : List Box) → bytes_eq b.kind kind ≡ true → of_kind kind (b ∷ boxes) ≡ b ∷ of_kind kind boxes
 kept kind b boxes e = rw (turned kind b.kind ∙ e) refl

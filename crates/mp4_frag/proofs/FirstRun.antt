@@ -10,7 +10,6 @@ use Rattle.mp4_frag.specs.words.Passing.{within_from}
 use Rattle.mp4_frag.specs.words.RunsJudged.{run_begins}
 use Rattle.mp4_frag.specs.words.FragmentTests.{shape_tests, one_run_tests}
 use Rattle.mp4_frag.specs.declared.sample_runs.Judged.{Judged}
-use Rattle.mp4_tables.proofs.InOrder.{fails_first}
 
 pub behind_all : {F : Type 0} (xs ys : List (Test F)) (o : Option F) → first_failed xs ≡ None → first_failed ys ≡ o → first_failed (xs ++ ys) ≡ o
 behind_all [] ys o e g = g
@@ -27,15 +26,6 @@ rest_tests judged before room payload = (nat_le (row_count trun payload) room, T
     ∷ (true, BadValue) ∷ (true, OutsideData) ∷ (not (has_large_offset trun payload), OffsetTooLarge) ∷ []
 
 module _ (judged : Judged) (before : ℤ) (room : ℕ) (payload : List ℕ) where
-  within : Bool
-  within = within_from judged.file_len judged.inherited.size (run_begins judged.base before payload) (sample_run_of payload).rows
-
-  pub run_shape : (k : Kind) → first_failed (shape_tests trun payload) ≡ Some k → first_failed (one_run_tests judged before room payload) ≡ Some k
-  run_shape k e = fails_first (shape_tests trun payload) (rest_tests judged before room payload) k e
-
-  pub run_many : first_failed (shape_tests trun payload) ≡ None → nat_le (row_count trun payload) room ≡ false → first_failed (one_run_tests judged before room payload) ≡ Some TooManySamples
-  run_many e m = behind_all (shape_tests trun payload) (rest_tests judged before room payload) (Some TooManySamples) e (rw m refl)
-
   pub run_elsewhere : first_failed (shape_tests trun payload) ≡ None → nat_le (row_count trun payload) room ≡ true → within_from judged.file_len judged.inherited.size (run_begins judged.base before payload) (sample_run_of payload).rows ≡ false
       → first_failed (one_run_tests judged before room payload) ≡ Some SampleOutsideFile
   run_elsewhere e m w = behind_all (shape_tests trun payload) (rest_tests judged before room payload) (Some SampleOutsideFile) e (rw (m, w) refl)

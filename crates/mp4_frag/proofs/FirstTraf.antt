@@ -28,9 +28,6 @@ use Rattle.mp4_frag.proofs.RunsPassed.{judged_by}
 use Rattle.mp4_frag.proofs.TrafRefused.{IsOpened}
 use Rattle.mp4_tables.proofs.InOrder.{fails_first}
 
-abbrev Listed : Box → Type 0
-Listed b = children_or_fault rules.TrackFragment (box_container b) ≡ Ok (children_of b)
-
 abbrev head_tests : Box → List (Test Fault)
 head_tests h = naming h (leaf_tests tfhd h.payload)
 

@@ -80,9 +80,6 @@ groups_none n first all named few e = record {
   names_first = refl;
 }
 
-other_kept : (b : Box) (boxes : List Box) → bytes_eq b.kind (codes "sbgp") ≡ false → groups_of (b ∷ boxes) ≡ groups_of boxes
-other_kept b boxes e = rw (turned (codes "sbgp") b.kind ∙ e) refl
-
 group_kept : (b : Box) (boxes : List Box) → bytes_eq b.kind (codes "sbgp") ≡ true → groups_of (b ∷ boxes) ≡ b ∷ groups_of boxes
 group_kept b boxes e = rw (turned (codes "sbgp") b.kind ∙ e) refl
 

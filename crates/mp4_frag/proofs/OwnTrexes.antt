@@ -1,16 +1,15 @@
 -- A `moof` says the same by each list that has the defaults of its tracks, and there is always one: the tracks' own.
-use Rattle.std.proofs.Common.{◌≡◌, ℕ, ◌==◌, Bool, true, false, List, [], ◌∷◌, Option, Some, None, refl, sym, ap, ◌∙◌, IsTrue, subst}
-use Rattle.std.specs.List.{AllByRecursion}
+use Rattle.std.proofs.Common.{◌≡◌, ℕ, ◌==◌, Bool, true, false, List, [], ◌∷◌, Option, Some, None, refl, sym, ap, ◌∙◌}
 use Rattle.std.specs.Prelude.{ℤ, pos, ◌+ℤ◌, unwrap_or}
 use Rattle.std.proofs.lemmas.Bool.{eqb-true}
 use Rattle.mp4_tables.specs.format.PlainSamples.{PlacedSample}
-use Rattle.mp4_frag.specs.format.Fragments.{RunRow, SampleRun, TrackFragment, FragmentTree, fragment_of}
-use Rattle.mp4_frag.specs.format.FragmentSamples.{Part, parts_of, parts_after, inherited, flags_of, run_samples, run_start, runs_samples, runs_end, end_of_data, base_of, trex_for, no_trex}
-use Rattle.mp4_frag.specs.words.Judged.{AreTrexesOf, IsSoundMoof, IsPlacedWithin, IsGrouped, is_known_among, own_trexes, part_with, end_with}
+use Rattle.mp4_frag.specs.format.Fragments.{RunRow, SampleRun, TrackFragment}
+use Rattle.mp4_frag.specs.format.FragmentSamples.{inherited, flags_of, run_samples, run_start, runs_samples, runs_end, end_of_data, base_of, trex_for, no_trex}
+use Rattle.mp4_frag.specs.words.Judged.{AreTrexesOf, own_trexes, part_with, end_with}
 use Rattle.mp4_frag.specs.words.Walks.{trex_among}
 use Rattle.mp4_frag.specs.declared.state.TrackState.{TrackState}
 use Rattle.mp4_frag.specs.declared.trex.Trex.{Trex}
-use Rattle.mp4_frag.proofs.TrafsTied.{trex_found, some_known}
+use Rattle.mp4_frag.proofs.TrafsTied.{trex_found}
 
 -- ---- the ID of a `trex` does not matter
 
@@ -90,28 +89,3 @@ own_agree tracks id trex e moof before traf =
     )
 
 -- ---- a sound `moof`
-
-parts_same : (some other : List Trex) (tracks : List TrackState) (moof : ℕ) (before : ℤ) (trafs : List TrackFragment) → Agree some tracks → Agree other tracks → AllByRecursion (λ (part : Part). IsTrue (is_known_among tracks part)) (parts_after some moof before trafs)
-    → parts_after some moof before trafs ≡ parts_after other moof before trafs
-parts_same some other tracks moof before [] a b known = refl
-parts_same some other tracks moof before (traf ∷ trafs) a b known =
-    let trex = some_known (trex_among tracks traf.id) known.0 in
-    let here = a traf.id trex.0 trex.1 moof before traf in
-    let there = b traf.id trex.0 trex.1 moof before traf in
-    let end = end_with moof before (unwrap_or (trex_for some traf.id) no_trex) traf in
-    let part = sym here.0 ∙ there.0 in
-    let more = parts_same some other tracks moof end trafs a b known.1 ∙ ap (λ (at : ℤ). parts_after other moof at trafs) (sym here.1 ∙ there.1) in
-    λ i. part i ∷ more i
-
--- it is sound by each list that agrees with its tracks, where it is by one
-pub sound_by : (L : ℕ) (some other : List Trex) (tracks : List TrackState) (t : FragmentTree) → Agree some tracks → Agree other tracks → IsSoundMoof L some tracks t → IsSoundMoof L other tracks t
-sound_by L some other tracks t a b s =
-    let parts : parts_of some (fragment_of t) ≡ parts_of other (fragment_of t) = parts_same some other tracks t.moof.offset (pos t.moof.offset) (fragment_of t).trafs a b s.known in
-    record {
-      short = s.short;
-      tree = s.tree;
-      leaves = s.leaves;
-      known = subst (AllByRecursion (λ (part : Part). IsTrue (is_known_among tracks part))) parts s.known;
-      places = subst (AllByRecursion (IsPlacedWithin L)) parts s.places;
-      groups = subst (AllByRecursion IsGrouped) parts s.groups;
-    }

@@ -1,7 +1,7 @@
 -- The runs of a `traf`, passed one by one.
-use Rattle.std.proofs.Common.{◌≡◌, ℕ, ◌+◌, ◌-◌, ◌≤◌, true, false, List, [], ◌∷◌, Some, None, refl, sym, ap, subst, ◌∙◌, arith}
+use Rattle.std.proofs.Common.{◌≡◌, ℕ, ◌+◌, ◌-◌, ◌≤◌, true, List, [], ◌∷◌, Some, None, refl, sym, ap, subst, ◌∙◌, arith}
 use Rattle.std.specs.Prelude.{ℤ, codes, bytes_eq}
-use Rattle.mp4_boxes.specs.format.Box.{Box, Tiles, box_container, bytes_container}
+use Rattle.mp4_boxes.specs.format.Box.{Box, Tiles, bytes_container}
 use Rattle.mp4_tables.specs.words.Leaves.{boxes_of}
 use Rattle.mp4_tables.proofs.LeafLists.{boxes_are}
 use Rattle.mp4_boxes.specs.format.Children.{of_kind}
@@ -37,25 +37,8 @@ pub record RunsSeen (file_length : ℕ) (inherited : Inherited) (base : ℤ) (al
   pub filling : runs_filling inherited (runs_of all) ≡ fills + runs_filling inherited (runs_of left)
   pub first : first_failed (runs_tests (judged_by file_length inherited base) base whole (runs_of all)) ≡ first_failed (runs_tests (judged_by file_length inherited base) at room (runs_of left))
 
-other_kept : (b : Box) (boxes : List Box) → bytes_eq b.kind (codes "trun") ≡ false → runs_of (b ∷ boxes) ≡ runs_of boxes
-other_kept b boxes e = rw (turned (codes "trun") b.kind ∙ e) refl
-
 run_kept : (b : Box) (boxes : List Box) → bytes_eq b.kind (codes "trun") ≡ true → runs_of (b ∷ boxes) ≡ b ∷ runs_of boxes
 run_kept b boxes e = rw (turned (codes "trun") b.kind ∙ e) refl
-
--- another box
-pub seen_other : (L : ℕ) (inherited : Inherited) (base : ℤ) (all left later : List Box) (b : Box) (whole room : ℕ) (at : ℤ) (count lasts fills : ℕ) → RunsSeen L inherited base all left whole room at count lasts fills → left ≡ b ∷ later → bytes_eq b.kind (codes "trun") ≡ false
-    → RunsSeen L inherited base all later whole room at count lasts fills
-seen_other L inherited base all left later b whole room at count lasts fills s e k =
-    let same : runs_of left ≡ runs_of later = ap runs_of e ∙ other_kept b later k in
-    record {
-      sound = λ h. s.sound (subst (AreRunsSound L inherited base at) (sym same) h);
-      end = s.end ∙ ap (all_end inherited base at) same;
-      total = s.total ∙ ap (λ runs. count + runs_total runs) same;
-      lasting = s.lasting ∙ ap (λ runs. lasts + runs_lasting inherited runs) same;
-      filling = s.filling ∙ ap (λ runs. fills + runs_filling inherited runs) same;
-      first = s.first ∙ ap (λ (runs : List Box). first_failed (runs_tests (judged_by L inherited base) at room runs)) same;
-    }
 
 passed_total : (whole n more rest : ℕ) → whole ≡ n + (more + rest) → whole ≡ (n + more) + rest
 passed_total whole n more rest e = omega arith
@@ -117,11 +100,6 @@ unfolding boxes_of
 all_children b kind payload base boxes p o t =
     let here : Tiles (bytes_container kind (b.offset + b.header) b.payload) boxes = subst (λ n. Tiles (bytes_container kind n b.payload) boxes) o (subst (λ (bytes : List ℕ). Tiles (bytes_container kind base bytes) boxes) p t) in
     sym (boxes_are b boxes (record { front = here.front; full = here.full }))
-
--- they fill it as bytes too
-pub as_bytes : (b : Box) (kind payload : List ℕ) (base : ℕ) → payload ≡ b.payload → base ≡ b.offset + b.header → Tiles (box_container b) (children_of b) → Tiles (bytes_container kind base payload) (children_of b)
-as_bytes b kind payload base p o t =
-    subst (λ n. Tiles (bytes_container kind n payload) (children_of b)) (sym o) (subst (λ (bytes : List ℕ). Tiles (bytes_container kind (b.offset + b.header) bytes) (children_of b)) (sym p) (record { front = t.front; full = t.full }))
 
 -- ---- behind the last box
 

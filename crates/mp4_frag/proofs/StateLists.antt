@@ -1,7 +1,5 @@
 -- Tracks with room for samples.
-use Rattle.std.proofs.Common.{◌≡◌, ℕ, ◌<◌, ◌≤◌, List, [], ◌∷◌, length, drop, take, slice_set, slice_index_or, Bool, true, false, cond, Some, None, zero, suc, refl, rules, arith}
-use Rattle.std.specs.List.{slice_get}
-use Rattle.std.specs.Prelude.{find}
+use Rattle.std.proofs.Common.{ℕ, ◌<◌, ◌≤◌, List, [], ◌∷◌, length, slice_set, slice_index_or, zero, suc, rules, arith}
 use Rattle.mp4_boxes.proofs.Each.{each_weaker}
 use Rattle.mp4_frag.specs.words.States.{HasRoom, HaveRoom}
 use Rattle.mp4_frag.specs.declared.state.TrackState.{TrackState}
@@ -21,19 +19,3 @@ pub room_with : (room k : ℕ) (tracks : List TrackState) (t : TrackState) → H
 room_with room k [] t p h = tt
 room_with room zero (s ∷ tracks) t p h = (p, h.1)
 room_with room (suc k) (s ∷ tracks) t p h = (h.0, room_with room k tracks t p h.1)
-
--- the first that passes from the k-th on is the k-th, if it passes
-pub found_at : (p : TrackState → Bool) (k : ℕ) (tracks : List TrackState) (d : TrackState) → k < length tracks → p (slice_index_or tracks k d) ≡ true → find p (drop k tracks) ≡ slice_get tracks k
-found_at p k [] d lt h = absurd (search rules)
-found_at p zero (t ∷ tracks) d lt h = rw h refl
-found_at p (suc k) (t ∷ tracks) d lt h = found_at p k tracks d (omega arith) h
-
--- none up to the k-th passes, if none before it does, nor it itself
-pub none_up_to : (p : TrackState → Bool) (k : ℕ) (tracks : List TrackState) (d : TrackState) → k < length tracks → p (slice_index_or tracks k d) ≡ false → find p (take k tracks) ≡ None → find p (take (suc k) tracks) ≡ None
-none_up_to p k [] d lt h e = absurd (search rules)
-none_up_to p zero (t ∷ tracks) d lt h e = rw h refl
-none_up_to p (suc k) (t ∷ tracks) d lt h e = choice (p t) refl e (λ f. none_up_to p k tracks d (omega arith) h f)
-  where
-    choice : (v : Bool) → p t ≡ v → cond v (Some t) (find p (take k tracks)) ≡ None → (find p (take k tracks) ≡ None → find p (take (suc k) tracks) ≡ None) → cond v (Some t) (find p (take (suc k) tracks)) ≡ None
-    choice true g e later = absurd cc
-    choice false g e later = later e

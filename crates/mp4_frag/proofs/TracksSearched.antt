@@ -1,7 +1,6 @@
 -- A track that is searched among all, one after the other.
-use Rattle.std.proofs.Common.{◌≡◌, ℕ, zero, suc, ◌<◌, ◌==◌, Bool, true, false, cond, List, [], ◌∷◌, length, take, Some, None, refl, sym, ap, ◌∙◌, arith, slice_index_or}
+use Rattle.std.proofs.Common.{◌≡◌, ℕ, zero, suc, ◌<◌, ◌==◌, Bool, true, false, cond, List, [], ◌∷◌, length, take, Some, None, refl, sym, ◌∙◌, arith, slice_index_or}
 use Rattle.std.specs.Prelude.{Option}
-use Rattle.std.proofs.lemmas.List.{take_all}
 use Rattle.mp4_frag.specs.words.Finding.{IsFirstWith, track_with}
 use Rattle.mp4_frag.specs.declared.state.TrackState.{TrackState}
 use Rattle.mp4_frag.proofs.LeavesRead.{got}
@@ -32,6 +31,3 @@ found_at (t ∷ tracks) (suc k) id d lt e h =
 
 pub first_there : (tracks : List TrackState) (k id : ℕ) (d : TrackState) → k < length tracks → ((slice_index_or tracks k d).id == id) ≡ true → track_with id (take k tracks) ≡ None → IsFirstWith tracks id k
 first_there tracks k id d lt e h = record { found = found_at tracks k id d lt e h ∙ sym (got k tracks d lt); first = h }
-
-pub none_there : (tracks : List TrackState) (k id : ℕ) → k ≡ length tracks → track_with id (take k tracks) ≡ None → track_with id tracks ≡ None
-none_there tracks k id e h = ap (track_with id) (sym (ap (λ n. take n tracks) e ∙ take_all (length tracks) tracks (omega arith))) ∙ h

@@ -86,14 +86,3 @@ track_sound payload width id o e ne =
 pub media_at : (payload : List ℕ) (i place width : ℕ) → i < length (fields mdhd (version payload)) → width ≡ slice_index (fields mdhd (version payload)) i → place ≡ width_of (take i (fields mdhd (version payload)))
     → field payload place width ≡ slice_index (leaf_fields mdhd payload) i
 media_at payload i place width lt w p = number_is (fields mdhd (version payload)) payload i place width lt w p
-
-media_needs : (payload : List ℕ) → needed mdhd payload ≡ 12 + 3 * time_width (version payload)
-media_needs payload = omega arith
-
-pub media_readable : (payload : List ℕ) (width : ℕ) → IsOpen 1 12 3 payload width → IsReadable mdhd payload
-media_readable payload width o = let n = media_needs payload in open_readable mdhd 1 12 3 width payload refl refl (omega arith) o
-
--- an `mdhd` with a timescale is sound
-pub media_sound : (payload : List ℕ) (width timescale : ℕ) → IsOpen 1 12 3 payload width → timescale ≡ slice_index (leaf_fields mdhd payload) 4 → ¬ (timescale ≡ 0) → IsSound mdhd payload
-media_sound payload width timescale o e ne =
-    record { readable = media_readable payload width o; value = not_zero (slice_index (leaf_fields mdhd payload) 4) (λ z. ne (e ∙ z)); inside = refl; offsets = refl }

@@ -4,7 +4,7 @@ use Rattle.std.specs.Prelude.{codes, bytes_eq, nat_eq}
 use Rattle.std.specs.List.{AllByRecursion, AllZip, list_any}
 use Rattle.std.specs.BTreeSet.{BTreeSet, IsEmpty}
 use Rattle.std.proofs.lemmas.List.{map-append}
-use Rattle.mp4_boxes.specs.format.Box.{Box, box_container, StandsAfter}
+use Rattle.mp4_boxes.specs.format.Box.{Box, box_container}
 use Rattle.mp4_boxes.specs.format.Children.{Holds, of_kind, is_among, kept_kinds}
 use Rattle.mp4_boxes.specs.format.Layout.{mvhd, IsSound}
 use Rattle.mp4_boxes.specs.format.Places.{ruled, AreSound}
@@ -25,7 +25,6 @@ use Rattle.mp4_head.specs.words.Containers.{SaysExtends, kept_of}
 use Rattle.mp4_head.specs.words.Found.{LiesIn, HasTrackHead, IsFoundIn, SaysHead, movie_joined}
 use Rattle.mp4_head.specs.words.Ids.{HasIds, AddsId}
 use Rattle.mp4_head.specs.words.Leaves.{SaysMovie}
-use Rattle.mp4_head.proofs.Above.{stands_of}
 use Rattle.mp4_head.proofs.Distinct.{payload_first, map_twice}
 use Rattle.mp4_head.proofs.Inside.{stbls_lie}
 use Rattle.mp4_head.proofs.KeptWalks.{KeptPassed, keeps_none, keeps_this, keeps_other, keeps_all, another, ReadIf, not_there, was_there, if_other, if_this, holds_there, holds_none}
@@ -69,9 +68,6 @@ module _ (b : Box) (all left later : List Box) (child : Box) (header : Option Mo
     (h : Holds kinds.Movie (box_container b) all) (p : MoviePassed all left header kept tracks ids trexes) (e : left ≡ child ∷ later) where
   split : all ≡ p.walk.passed ++ child ∷ later
   split = walk_here all left later child p.walk e
-
-  stands : StandsAfter (box_container b) p.walk.passed child
-  stands = stands_of b all p.walk.passed later child h.tiles split
 
   no_track : bytes_eq (codes "trak") child.kind ≡ false → AllZip IsTrack (of_kind (codes "trak") (p.walk.passed ++ child ∷ [])) tracks
   no_track n = subst (λ (bs : List Box). AllZip IsTrack bs tracks) (sym (kind_snoc_other (codes "trak") p.walk.passed child n)) p.tracks_are

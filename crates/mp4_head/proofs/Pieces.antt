@@ -97,8 +97,3 @@ boxed_room out kind payload later at n k e =
 -- A number is folded out of a list, of which the members before a place were looked at.
 pub record Folded {A B : Type 0} (f : B → A → B) (start : B) (all : List A) (i : ℕ) (b : B) : Type 0 where
   pub whole : fold f b (drop i all) ≡ fold f start all
-
--- members that are seen in another way
-pub folded_seen : {A B C : Type 0} (f : B → C → B) (v : A → C) (start : B) (all : List A) → fold (λ b x. f b (v x)) start all ≡ fold f start (map v all)
-folded_seen f v start [] = refl
-folded_seen f v start (x ∷ xs) = folded_seen f v (f start (v x)) xs

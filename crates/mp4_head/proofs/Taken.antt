@@ -97,8 +97,3 @@ pub whose : {A : Type 0} (R : Box → A → Type 0) (g : A → ℕ) (kind : List
 whose R g kind [] [] n z h = absurd cc
 whose R g kind [] (v ∷ vs) n z h = absurd z
 whose R g kind (c ∷ bs) vs n z h = kind_step R g kind c bs vs n (bytes_eq kind c.kind) refl z h (λ us y k. whose R g kind bs us n y k)
-
--- values go with what they are of
-pub zip_values : {A B : Type 0} (f : A → B) (xs : List A) → AllZip (λ x y. y ≡ f x) xs (map f xs)
-zip_values f [] = tt
-zip_values f (x ∷ xs) = (refl, zip_values f xs)

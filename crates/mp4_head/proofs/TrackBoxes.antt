@@ -2,7 +2,7 @@
 use Rattle.std.proofs.Common.{◌≡◌, ℕ, true, false, List, [], ◌∷◌, ◌++◌, map, Option, Some, None, refl, sym, subst, ◌∙◌, arith}
 use Rattle.std.specs.Prelude.{codes, bytes_eq}
 use Rattle.std.specs.BTreeSet.{BTreeSet}
-use Rattle.mp4_boxes.specs.format.Box.{Box, box_container, StandsAfter}
+use Rattle.mp4_boxes.specs.format.Box.{Box, box_container}
 use Rattle.mp4_boxes.specs.format.Children.{Holds, of_kind, is_among, payload_if, kept_kinds}
 use Rattle.mp4_boxes.specs.format.Layout.{tkhd, stsd, IsSound}
 use Rattle.mp4_boxes.specs.format.Places.{ruled, AreSound}
@@ -20,7 +20,6 @@ use Rattle.mp4_head.specs.words.Containers.{SaysEdits, SaysMediaBoxes, kept_of}
 use Rattle.mp4_head.specs.words.Found.{track_joined, HasTrackHead}
 use Rattle.mp4_head.specs.words.Ids.{AddsId}
 use Rattle.mp4_head.specs.words.Leaves.{SaysTrack, SaysMedia}
-use Rattle.mp4_head.proofs.Above.{stands_of}
 use Rattle.mp4_head.proofs.Distinct.{payload_first}
 use Rattle.mp4_head.proofs.KeptWalks.{KeptPassed, keeps_none, keeps_this, keeps_other, keeps_all, another, ReadIf, not_there, was_there, if_other, if_this, still_none, holds_there, holds_none}
 use Rattle.mp4_head.proofs.Walks.{Walk, walk_none, walk_more, walk_here, walk_all, none_before, sound_more, FirstRead, not_yet, was_read, first_other, first_this, first_read, first_missing}
@@ -59,9 +58,6 @@ module _ (b : Box) (old : BTreeSet ℕ) (all left later : List Box) (child : Box
     (h : Holds kinds.Track (box_container b) all) (p : TrackPassed old all left ids header edits kept media) (e : left ≡ child ∷ later) where
   split : all ≡ p.walk.passed ++ child ∷ later
   split = walk_here all left later child p.walk e
-
-  stands : StandsAfter (box_container b) p.walk.passed child
-  stands = stands_of b all p.walk.passed later child h.tiles split
 
   -- before its `tkhd` is read the set is as it was
   pub ids_before : bytes_eq (codes "tkhd") child.kind ≡ true → ids ≡ old

@@ -1,12 +1,6 @@
 -- What holds of each of a list, at one place.
-use Rattle.std.proofs.Common.{ℕ, ◌<◌, List, [], ◌∷◌, ◌++◌, length, slice_set, slice_index_or, zero, suc, arith}
+use Rattle.std.proofs.Common.{ℕ, List, [], ◌∷◌, ◌++◌, slice_set, zero, suc}
 use Rattle.std.specs.List.{AllByRecursion}
-
--- it holds of the one at a place
-pub holds_at : {A : Type 0} (P : A → Type 0) (xs : List A) (k : ℕ) (d : A) → k < length xs → AllByRecursion P xs → P (slice_index_or xs k d)
-holds_at P [] k d lt h = absurd (omega (arith, lt))
-holds_at P (x ∷ xs) zero d lt h = h.0
-holds_at P (x ∷ xs) (suc k) d lt h = holds_at P xs k d (omega (arith, lt)) h.1
 
 -- it holds of each with another one in a place
 pub holds_with : {A : Type 0} (P : A → Type 0) (xs : List A) (k : ℕ) (x : A) → P x → AllByRecursion P xs → AllByRecursion P (slice_set xs k x)

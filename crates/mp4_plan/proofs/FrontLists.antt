@@ -36,21 +36,9 @@ agree_all t u f (x ∷ xs) = by (agree_all t u f xs) (t x) refl
     by h true e = ends e (sym (f x) ∙ e)
     by h false e = goes e (sym (f x) ∙ e) h
 
--- what holds of each holds of those from the first that passes on
-pub all_rest : {A : Type 0} (P : A → Type 0) (t : A → Bool) (xs : List A) → AllByRecursion P xs → AllByRecursion P (rest t xs)
-all_rest P t [] h = tt
-all_rest P t (x ∷ xs) h = by (all_rest P t xs h.1) (t x)
-  where
-    by : AllByRecursion P (rest t xs) → (v : Bool) → AllByRecursion P (cond v (x ∷ xs) (rest t xs))
-    by r true = h
-    by r false = r
-
 -- ---- numbers that never fall
 
 module _ {A : Type 0} (f : A → ℕ) (k : ℕ) where
-  later : A → Bool
-  later x = nat_lt k (f x)
-
   none_here : (xs : List A) (low : ℕ) → k < low → NeverFalls f low xs → numbered f xs k ≡ []
   none_here [] low lt h = refl
   none_here (x ∷ xs) low lt h =

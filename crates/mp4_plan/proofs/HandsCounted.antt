@@ -33,21 +33,6 @@ module _ (test : SampleAt → Bool) where
   pub counts_none : (all : List SampleAt) → CountsFirst test 0 all all
   counts_none all = record { few = omega arith; same = omega arith; rest = refl }
 
-  -- one more
-  pub counts_one : (n : ℕ) (all left later : List SampleAt) (s : SampleAt) → CountsFirst test n all left → Some s ≡ slice_get left 0 → test s ≡ true → later ≡ drop 1 left → CountsFirst test (n + 1) all later
-  counts_one n all left later s h first passes next =
-      let is = first_of left s first in
-      let one : prefix_len test left ≡ 1 + prefix_len test (drop 1 left) = ap (prefix_len test) is ∙ ap (λ b. cond b (1 + prefix_len test (drop 1 left)) 0) passes in
-      let same = h.same in
-      let few = h.few in
-      let long = ap (λ (l : List SampleAt). length l) (sym h.rest ∙ is) in
-      let same_next = ap (prefix_len test) next in
-      record {
-        few = omega (arith, few, long, length-drop n all);
-        same = omega (arith, same, one, same_next);
-        rest = next ∙ ap (drop 1) h.rest ∙ drop-drop 1 n all;
-      }
-
   -- some and some more
   pub counts_then : (a b : ℕ) (xs ys zs : List SampleAt) → CountsFirst test a xs ys → CountsFirst test b ys zs → CountsFirst test (a + b) xs zs
   counts_then a b xs ys zs h k =

@@ -33,7 +33,6 @@ pub mod NormalTree
 pub mod GoodPieces
 pub mod NormalGroups
 pub mod NormalDenotes
-pub mod TurnOrder
 mod LooksOn
 pub mod ReducedNormal
 pub mod HeadLimit

@@ -64,10 +64,6 @@ abbrev pub IsLeast : Option ℕ → (GroupKey → Type 0) → List GroupKey → 
 IsLeast behind Own keys None = AllByRecursion (λ k. is_above behind k ≡ false) keys
 IsLeast behind Own keys (Some key) = (is_above behind key ≡ true) × Own key × AllByRecursion (λ k. is_above behind k ≡ true → key_rank key ≤ key_rank k) keys
 
--- those that came before are no less than what was found
-abbrev Before : Option ℕ → (GroupKey → Type 0) → List GroupKey → Option GroupKey → Type 0
-Before behind Own seen found = IsLeast behind Own seen found
-
 all_push : (P : GroupKey → Type 0) (xs : List GroupKey) (x : GroupKey) → AllByRecursion P xs → P x → AllByRecursion P (xs ++ x ∷ [])
 all_push P [] x h p = (p, tt)
 all_push P (y ∷ xs) x h p = (h.0, all_push P xs x h.1 p)

@@ -16,9 +16,6 @@ use Rattle.mp4_plan.specs.declared.stretches.Stretches.{Stretches}
 use Rattle.mp4_plan.proofs.EachAt.{holds_push}
 use Rattle.mp4_tables.proofs.Sums.{sum_joined}
 
-size_of : SampleAt → ℕ
-size_of s = s.size
-
 -- ---- bytes of samples
 
 -- a stretch without bytes is those of no samples

@@ -34,9 +34,6 @@ put_same : (x y : TimedSample) (ys : List TimedSample) (runs : List (List TimedS
 put_same x y ys runs e = rw e refl
 
 module _ (st : TimedSample → Bool) (d : ℕ) where
-  in_run : TimedSample → Bool
-  in_run s = not (st s) && s.sample.description == d
-
   -- a sample in front of a run of its description
   run_front : (x : TimedSample) (xs : List TimedSample) → x.sample.description ≡ d
       → put_before x (by_description (front st xs)) ≡ (x ∷ take (prefix_len (λ s. not (st s) && s.sample.description == d) xs) xs) ∷ by_description (front st (drop (prefix_len (λ s. not (st s) && s.sample.description == d) xs) xs))

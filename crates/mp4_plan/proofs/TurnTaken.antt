@@ -1,6 +1,6 @@
 -- A turn takes the first of the pieces that are left, and those behind it are left then.
-use Rattle.std.proofs.Common.{◌≡◌, ℕ, zero, suc, ◌+◌, ◌-◌, ◌<◌, ◌≤◌, ◌==◌, nat_le, ◌&&◌, not, Bool, true, false, cond, List, [], ◌∷◌, ◌++◌, length, take, drop, Option, Some, None, inl, inr, refl, sym, ap, subst, ◌∙◌, length-append, arith, rules, true≢false, slice_get, slice_set}
-use Rattle.std.specs.Prelude.{option_map, nat_lt}
+use Rattle.std.proofs.Common.{◌≡◌, ℕ, zero, suc, ◌+◌, ◌-◌, ◌<◌, ◌≤◌, ◌==◌, nat_le, ◌&&◌, not, Bool, true, false, cond, List, [], ◌∷◌, ◌++◌, length, take, drop, Option, Some, None, inl, inr, refl, sym, ap, subst, ◌∙◌, arith, rules, true≢false, slice_get, slice_set}
+use Rattle.std.specs.Prelude.{option_map}
 use Rattle.std.specs.List.{AllByRecursion, prefix_len}
 use Rattle.std.proofs.lemmas.Bool.{eq-eqb, ne_eqb, eqb-true}
 use Rattle.std.proofs.lemmas.List.{length-drop, length-take-le}
@@ -15,7 +15,7 @@ use Rattle.mp4_plan.specs.words.Ends.{has_ended, goes_in}
 use Rattle.mp4_plan.specs.words.Gathering.{piece_from, more_of, samples_after}
 use Rattle.mp4_plan.specs.words.PiecesComing.{Coming, end_of_first, end_of_other, pieces_left}
 use Rattle.mp4_content.specs.words.TakenSamples.{AreTaken}
-use Rattle.mp4_plan.specs.words.Turns.{turn_end, turned, track_passed, wrapped, is_over, MayPass, Sticks, to_come}
+use Rattle.mp4_plan.specs.words.Turns.{turn_end, turned, track_passed, wrapped, is_over, MayPass, Sticks}
 use Rattle.mp4_plan.specs.words.TurnLaws.{IsAmong, IsOver, next_time, piece_if, turn_count, after_turn}
 use Rattle.mp4_plan.specs.declared.ends.End.{End}
 use Rattle.mp4_plan.specs.declared.ends.End.TheVariants.{Sync, Before}
@@ -23,11 +23,9 @@ use Rattle.mp4_plan.specs.declared.schedule.Schedule.{Schedule}
 use Rattle.mp4_plan.proofs.FragmentsLeft.{not_itself}
 use Rattle.mp4_plan.proofs.Lefts.{IsLeft, AreLeft, left_count, IsFresh, StandsIn, pieces_from, IsTurn}
 use Rattle.mp4_plan.proofs.TakenTurns.{ended_same, turn_same, taken_front, taken_behind}
-use Rattle.mp4_plan.proofs.TurnOrder.{less_on, less_over}
 use Rattle.mp4_plan.proofs.TurnSteps.{turns_take_all}
-use Rattle.mp4_boxes.proofs.Plain.{get_some, some_is}
+use Rattle.mp4_boxes.proofs.Plain.{some_is}
 use Rattle.mp4_plan.proofs.HandsTaken.{few_more}
-use Rattle.mp4_boxes.proofs.Among.{all_append}
 use Rattle.mp4_content.proofs.ReducedTaken.{as_many_taken}
 
 -- ---- how many are left
@@ -47,14 +45,6 @@ count_set (l ∷ lefts) (suc k) left behind e =
     let a = left_cons l lefts in
     let b = left_cons l (slice_set lefts k behind) in
     omega (arith, n, a, b)
-
-prefix_few : {A : Type 0} (p : A → Bool) (xs : List A) → prefix_len p xs ≤ length xs
-prefix_few p [] = omega arith
-prefix_few p (x ∷ xs) = by (p x) (prefix_few p xs)
-  where
-    by : (v : Bool) → prefix_len p xs ≤ length xs → cond v (1 + prefix_len p xs) 0 ≤ suc (length xs)
-    by true h = omega (arith, h)
-    by false h = omega arith
 
 -- So many fewer are left behind it.
 pub count_behind : (lefts : List (List SampleAt)) (k n : ℕ) (left : List SampleAt) → slice_get lefts k ≡ Some left → n ≤ length left → left_count lefts - n ≡ left_count (slice_set lefts k (drop n left))
@@ -421,86 +411,6 @@ pub turn_tracks : (file : List ℕ) (infos : List TrackInfo) (s : Schedule) (lef
 turn_tracks file infos s [] [] h = h.among ∙ (tracks_left file infos [] [] h.each).1
 turn_tracks file infos s (l ∷ lefts) [] h = h.among ∙ (tracks_left file infos (l ∷ lefts) [] h.each).1
 turn_tracks file infos s lefts (first ∷ others) h = h.among.among.tracks ∙ (tracks_left file infos lefts (first ∷ others) h.each).1
-
--- What is to come gets less with a turn.
-pub turn_less : (file : List ℕ) (infos : List TrackInfo) (s : Schedule) (lefts : List (List SampleAt)) (comings : List Coming) (info : TrackInfo) (left : List SampleAt) → TurnTaken file infos s lefts comings info left → s.track < s.tracks
-    → (let end = turn_end s info.timescale in to_come (turned s end (more_of (piece_from end) left) (slice_get (samples_after (piece_from end) left) 0)) < to_come s)
-turn_less file infos s lefts comings info left t lt = by (is_over end next) refl
-  where
-    end : End
-    end = turn_end s info.timescale
-
-    n : ℕ
-    n = more_of (piece_from end) left
-
-    next : Option SampleAt
-    next = slice_get (samples_after (piece_from end) left) 0
-
-    some_or : (m : ℕ) → (m ≡ 0 → ⊥) → 0 < m
-    some_or zero h = absurd (h refl)
-    some_or (suc m) h = omega arith
-
-    no_time : (x : Option SampleAt) (c : ℕ) → x ≡ None → option_map (λ (a : SampleAt). a.dts) x ≡ Some c → ⊥
-    no_time None c e f = cc
-    no_time (Some a) c e f = cc
-
-    by : (v : Bool) → is_over end next ≡ v → to_come (cond v (track_passed (record s { left = s.left - n }) (option_map (λ (a : SampleAt). a.dts) next)) (record s { left = s.left - n })) < to_come s
-    by true e = less_over s n (option_map (λ (a : SampleAt). a.dts) next) t.few lt (λ z c f. some_or n (λ m. no_time next c ((t.moves m).1 z) f))
-    by false e = less_on s n t.few (some_or n (λ m. true≢false (sym (t.moves m).0 ∙ e)))
-
-one_bounded : (id m : ℕ) (samples : List TimedSample) → length samples ≤ m → AllByRecursion (λ (p : Piece). length p.samples ≤ m) (piece_if id samples) × (length (piece_if id samples) ≤ length samples)
-one_bounded id m [] le = (tt, omega arith)
-one_bounded id m (s ∷ samples) le = ((le, tt), omega arith)
-
-abbrev AreFew : ℕ → ℕ → List Piece → Type 0
-AreFew most n pieces = AllByRecursion (λ (p : Piece). length p.samples ≤ most) pieces × (length pieces ≤ n)
-
-few_joined : (most n m : ℕ) (xs ys : List Piece) → AreFew most n xs → AreFew most m ys → AreFew most (n + m) (xs ++ ys)
-few_joined most n m xs ys h k =
-    let a = h.1 in
-    let b = k.1 in
-    let both = length-append xs ys in
-    (all_append (λ (p : Piece). length p.samples ≤ most) xs ys h.0 k.0, omega (arith, a, b, both))
-
-few_none : (most n : ℕ) (xs : List Piece) → xs ≡ [] → AreFew most n xs
-few_none most n xs e = subst (λ l. AreFew most n l) (sym e) (tt, omega arith)
-
-pieces_few : (fuel : ℕ) (most : ℕ) (file : List ℕ) (infos : List TrackInfo) (s : Schedule) (lefts : List (List SampleAt)) (comings : List Coming) → to_come s < fuel → left_count lefts ≤ most → IsTurn file infos s lefts comings
-    → AreFew most (left_count lefts) (pieces_from s comings)
-pieces_few zero most file infos s lefts comings lt le h = absurd (omega (arith, lt))
-pieces_few (suc fuel) most file infos s lefts comings less le h = by (nat_lt s.track s.tracks) refl (λ p ls cs. pieces_few fuel most file infos p ls cs)
-  where
-    by : (v : Bool) → nat_lt s.track s.tracks ≡ v
-        → ((p : Schedule) (ls : List (List SampleAt)) (cs : List Coming) → to_come p < fuel → left_count ls ≤ most → IsTurn file infos p ls cs → AreFew most (left_count ls) (pieces_from p cs))
-        → AreFew most (left_count lefts) (pieces_from s comings)
-    by false e behind_few =
-        let last : s.tracks ≤ s.track = search rules in
-        few_none most (left_count lefts) (pieces_from s comings) (turns_end file infos s lefts comings h last)
-    by true e behind_few =
-        let lt : s.track < s.tracks = search rules in
-        let tracks = turn_tracks file infos s lefts comings h in
-        let many = (tracks_left file infos lefts comings h.each).0 in
-        let at = get_some infos s.track (omega (arith, lt, tracks)) in
-        let own = get_some lefts s.track (omega (arith, lt, tracks, many)) in
-        let info = at.0 in
-        let left = own.0 in
-        let t = turn_taken file infos s lefts comings info left h lt at.1 own.1 in
-        let end = turn_end s info.timescale in
-        let n = more_of (piece_from end) left in
-        let behind = drop n left in
-        let p = turned s end n (slice_get behind 0) in
-        let fewer = turn_less file infos s lefts comings info left t lt in
-        let size = few_more (piece_from end) left in
-        let a = count_set lefts s.track left behind own.1 in
-        let b = length-drop n left in
-        let c = length-take-le n left size in
-        let d = as_many_taken file (keys_seen info.keys) (take n left) t.samples t.taken in
-        let e : n + left_count (slice_set lefts s.track behind) ≡ left_count lefts = omega (arith, a, b, size) in
-        let one = one_bounded info.id most t.samples (omega (arith, c, d, e, le)) in
-        let many_one = one.1 in
-        let later_few = behind_few p (slice_set lefts s.track behind) t.later (omega (arith, fewer, less)) (omega (arith, e, le)) t.on in
-        let both = few_joined most n (left_count (slice_set lefts s.track behind)) (piece_if info.id t.samples) (pieces_from p t.later) (one.0, omega (arith, many_one, c, d)) later_few in
-        subst (λ l. AreFew most (left_count lefts) l) (sym t.pieces) (subst (λ k. AreFew most k (piece_if info.id t.samples ++ pieces_from p t.later)) e both)
 
 -- Where no piece that is left has more than so many samples, a turn takes no more, and no piece behind it has more.
 pub turn_fits : (most : ℕ) (file : List ℕ) (infos : List TrackInfo) (s : Schedule) (lefts : List (List SampleAt)) (comings : List Coming) (info : TrackInfo) (left : List SampleAt) → (t : TurnTaken file infos s lefts comings info left)

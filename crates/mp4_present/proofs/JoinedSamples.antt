@@ -19,13 +19,6 @@ pub length_one_more : (xs ys : List SampleAt) (s : SampleAt) → Some s ≡ slic
 length_one_more [] ys s e d = absurd (cc)
 length_one_more (x ∷ xs) ys s e d = rw d (omega arith)
 
--- one less is left
-pub one_less : (xs ys : List SampleAt) (s : SampleAt) → Some s ≡ slice_get xs 0 → ys ≡ drop 1 xs → length xs ≡ 1 + length ys
-one_less xs ys s e d =
-    let all = ap (λ (zs : List SampleAt). length zs) (first_of xs s e) in
-    let others = ap (λ (zs : List SampleAt). length zs) d in
-    omega (arith, all, others)
-
 -- where a sample is given, the list has one more
 one_more : (k : ℕ) (xs : List SampleAt) (s : SampleAt) → drop k xs ≡ s ∷ drop 1 (drop k xs) → (suc k ≤ length xs) × (take (suc k) xs ≡ take k xs ++ s ∷ []) × (drop 1 (drop k xs) ≡ drop (suc k) xs)
 one_more zero [] s e = absurd (cc)

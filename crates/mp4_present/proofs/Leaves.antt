@@ -1,5 +1,5 @@
 -- Where a leaf, an entry or a kept box has a fault, nothing is denoted.
-use Rattle.std.proofs.Common.{◌≡◌, ℕ, Bool, true, false, List, Some, refl, sym, ap, subst, ◌∙◌, arith, inl, inr}
+use Rattle.std.proofs.Common.{◌≡◌, ℕ, true, List, Some, refl, sym, ap, subst, ◌∙◌, arith, inl, inr}
 use Rattle.std.specs.Prelude.{codes, bytes_eq, slice_index}
 use Rattle.mp4_boxes.specs.format.Box.{Box}
 use Rattle.mp4_boxes.specs.format.Children.{of_kind, kept_kinds}
@@ -53,14 +53,6 @@ leaf_fault_refuses file f p s d =
     unsound s.leaf s.b.payload s.kind s.fails (sound_leaf d.tree d.is_sound s.place.scope r.0 r.1.named s.b r.2 s.leaf s.read)
 
 -- ---- which scope reads a box as the leaf
-
-abbrev is_tkhd : Leaf → Bool
-is_tkhd tkhd = true
-is_tkhd _ = false
-
-abbrev is_trex : Leaf → Bool
-is_trex trex = true
-is_trex _ = false
 
 -- ---- an ID that an earlier one has
 

@@ -1,22 +1,12 @@
 -- Short forms in which vectors of faults are written.
 use Rattle.std.proofs.Common.{◌≡◌, ℕ, ◌≤◌, false, List, leb}
 use Rattle.std.proofs.lemmas.Bool.{le-leb}
-use Rattle.mp4_boxes.specs.format.Box.{Box, Header, box_container, counted_container}
-use Rattle.mp4_boxes.specs.format.Places.{Scope, ruled, Place}
-use Rattle.mp4_boxes.specs.declared.rule.Rule.{Rule}
+use Rattle.mp4_boxes.specs.format.Box.{Header}
 use Rattle.mp4_boxes.proofs.Plain.{true_false}
 
 -- a header of 8 bytes
 abbrev pub says : List ℕ → ℕ → Header
 says kind size = record { kind = kind; length = 8; size = size }
-
--- a box that holds boxes under a rule
-abbrev pub box_place : Box → Rule → Place
-box_place b rule = record { scope = ruled rule; container = box_container b }
-
--- a box that holds counted entries
-abbrev pub entry_place : Box → Scope → Place
-entry_place b scope = record { scope = scope; container = counted_container b }
 
 -- a number that the test says is not within another
 pub beyond : (a b : ℕ) → a ≤ b → leb a b ≡ false → ⊥

@@ -244,13 +244,3 @@ module _ (file_length n room count lasts bytes : ℕ) (moov : Box) (h : TrackHea
         states = ap (map track_seen) ss ∙ map-append track_seen old.states.items (s ∷ []) ∙ (λ j. a.states j ++ state j ∷ []) ∙ sym (map-append (plain_seen trexes) trees (t ∷ []));
         room = ap (λ (m : ℕ). new.room + m) total ∙ left;
       }
-
--- no track yet
-pub tables_none : (file_length : ℕ) (moov : List ℕ) (trexes : List Trex) (p : PlainTracks) → p.tables.items ≡ [] → p.states.items ≡ [] → p.room ≡ 2 ^ 24 → HaveTables file_length moov trexes [] p
-tables_none file_length moov trexes p ts ss e = record {
-  sound = tt;
-  fit = tt;
-  tables = subst (λ (ys : List TrackTables). AllZip (AreTablesOf moov) [] ys) (sym ts) tt;
-  states = ap (map track_seen) ss;
-  room = omega (arith, e);
-}

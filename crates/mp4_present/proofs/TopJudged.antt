@@ -25,9 +25,6 @@ use Rattle.mp4_boxes.proofs.ChildrenJudged.{length_few}
 
 -- ---- what is tested of one header
 
-abbrev pub named_at : ℕ → TopHeader → List Box → Option Fault
-named_at at h boxes = first_failed (naming (record { kind = h.kind.0; offset = at; header = h.header; payload = [] }) (top_tests boxes h.kind.0))
-
 pub refused_first : (boxes : List Box) (b : Box) → allows File b.kind ≡ false → first_failed (naming b (top_tests boxes b.kind)) ≡ Some (record { kind = BoxNotInProfile; box_type = b.kind; offset = b.offset })
 refused_first boxes b e = rw e refl
 

@@ -38,14 +38,6 @@ fills_none xs e = ap bytes_of (empty xs e)
 
 -- ---- the first part with samples
 
-none_came : (own : List Part) → length (samples_of own) ≡ 0 → find has_samples own ≡ None
-none_came [] e = refl
-none_came (c ∷ own) e =
-    let both = length-append (part_samples c) (samples_of own) in
-    let first : length (part_samples c) ≡ 0 = omega arith in
-    let none : has_samples c ≡ false = ap (nat_lt 0) first in
-    ap (λ v. cond v (Some c) (find has_samples own)) none ∙ none_came own (omega arith)
-
 pub find_behind : (own more : List Part) → length (samples_of own) ≡ 0 → find has_samples (own ++ more) ≡ find has_samples more
 find_behind [] more e = refl
 find_behind (c ∷ own) more e =

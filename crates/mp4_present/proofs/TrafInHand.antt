@@ -125,10 +125,6 @@ no_samples file tree t earlier later w h none = empty (samples_behind tree t ear
     empty [] e = refl
     empty (s ∷ ss) e = absurd cc
 
--- where some are left, a `traf` is
-pub some_left : (file : List ℕ) (tree : FileTree) (t : TrackTree) (earlier later : List PlacedTraf) (w : Walk) → StandsBefore file tree t earlier later w → later ≡ [] → w.left ≡ 0
-some_left file tree t earlier later w h none = h.left ∙ ap (λ ps. length (samples_behind tree t earlier ps)) none
-
 -- nothing is left in hand, and no sample behind it
 pub ends_empty : (file : List ℕ) (tree : FileTree) (t : TrackTree) (m : MovieSeen) (earlier later : List PlacedTraf) (hand : InHand) (w : Walk) → samples_behind tree t earlier later ≡ [] → StandsBefore file tree t earlier later w → InHandOf m w hand
     → left_in_hand hand ≡ [] → Comes file tree t m w []

@@ -136,9 +136,6 @@ module _ (file : List ℕ) (movie : MovieTree) (passed : Passed) (inside : List 
       let i = only_first (codes "tfhd") inside one_head in
       first_is_each (codes "tfhd" ∷ []) SoundBox inside head i (omega (arith, one_head)) (sound_box (codes "tfhd") tfhd head refl (only_type (codes "tfhd") head.kind i.among) s)
 
-  no_times : (tests : Box → List (Test Fault)) → first_among (codes "tfdt" ∷ []) inside ≡ None → times tests ≡ []
-  no_times tests e = rw e refl
-
   time_there : (tests : Box → List (Test Fault)) (b : Box) → first_among (codes "tfdt" ∷ []) inside ≡ Some b → times tests ≡ tests b
   time_there tests b e = rw e refl
 

@@ -1,6 +1,6 @@
 -- The first fault of a `traf` behind what came before it, by the states of the tracks and by the parts before it.
-use Rattle.std.proofs.Common.{◌≡◌, ℕ, suc, ◌+◌, ◌-◌, ◌==◌, ◌&&◌, Bool, true, false, cond, List, [], ◌∷◌, ◌++◌, Option, Some, None, length, map, refl, sym, ap, ◌∙◌, arith, append_assoc, length-append}
-use Rattle.std.specs.Prelude.{ℤ, pos, codes, bytes_eq, not, nat_lt, unwrap_or, option_map, slice_get, find, is_some}
+use Rattle.std.proofs.Common.{◌≡◌, ℕ, suc, ◌+◌, ◌-◌, ◌==◌, ◌&&◌, Bool, true, false, List, [], ◌∷◌, ◌++◌, Option, Some, None, length, map, refl, sym, ap, ◌∙◌, arith, append_assoc, length-append}
+use Rattle.std.specs.Prelude.{ℤ, pos, codes, not, nat_lt, unwrap_or, option_map, slice_get, find, is_some}
 use Rattle.std.proofs.lemmas.List.{map-append}
 use Rattle.mp4_boxes.specs.format.Box.{Box}
 use Rattle.mp4_boxes.specs.format.BoxFaults.{fault_of}
@@ -44,16 +44,6 @@ use Rattle.mp4_present.proofs.TrafTests.{first_behind, naming-append, only_box, 
 use Rattle.mp4_present.proofs.FirstKept.{first_kept}
 
 -- ---- boxes of a type
-
--- where it is the first of its type, it is the one that is found
-found_kind : (kind : List ℕ) (boxes : List Box) (h : Box) (more : List Box) → of_kind kind boxes ≡ h ∷ more → find (λ (b : Box). bytes_eq kind b.kind) boxes ≡ Some h
-found_kind kind [] h more e = absurd cc
-found_kind kind (b ∷ boxes) h more e = by (bytes_eq kind b.kind) refl e (λ f. found_kind kind boxes h more f)
-  where
-    by : (v : Bool) → bytes_eq kind b.kind ≡ v → cond v (b ∷ of_kind kind boxes) (of_kind kind boxes) ≡ h ∷ more → (of_kind kind boxes ≡ h ∷ more → find (λ (c : Box). bytes_eq kind c.kind) boxes ≡ Some h)
-        → cond v (Some b) (find (λ (c : Box). bytes_eq kind c.kind) boxes) ≡ Some h
-    by true k f on = cc
-    by false k f on = on f
 
 -- the one box of a type
 pub one_there : (kind : List ℕ) (boxes : List Box) → count_among (kind ∷ []) boxes ≡ 1 → (h : Box) × (of_kind kind boxes ≡ h ∷ [])
@@ -232,10 +222,6 @@ module _ (file : List ℕ) (movie : MovieTree) (earlier : List FragmentTree) (mo
               ∙ ap first_failed (rest_same t e trex n h)
               ∙ sym (ap (λ (p : Part). first_failed (rest_tests (length file) movie parts_before room p (track_at movie (traf_in b).id) h (children_of b))) (part_is t e trex n))
               ∙ sym (ap (λ (v : Bool). first_failed ((v, fault_of UnknownTrack h) ∷ rest_tests (length file) movie parts_before room its_part (track_at movie (traf_in b).id) h (children_of b))) (known t e trex n))
-
-  -- the tests by the states, with its head apart
-  by_states_is : by_states.traf_tests (length file) moof at states room b ≡ for_only (λ (x : Box). head_tests x ++ track_tests (length file) moof at room b x (track_with (traf_in b).id states)) (of_kind (codes "tfhd") (children_of b))
-  by_states_is = refl
 
   -- the tests by the parts, with its head apart
   by_parts_is : (p : Part) → traf_tests (length file) movie (record { parts = parts_before; room = room }) p (children_of b)

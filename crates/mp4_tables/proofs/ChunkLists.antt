@@ -26,9 +26,6 @@ rising_lower low high (n ∷ ns) h e =
     let up = nat_lt_is high n parts.0 in
     rw (nat_lt_yes low n (omega arith)) parts.1
 
-firsts : List ChunkRow → List ℕ
-firsts rows = map (λ (row : ChunkRow). row.first) rows
-
 -- of rows that begin behind a chunk it has none
 none_after : (before : ChunkRow) (rows : List ChunkRow) (c : ℕ) → is_rising_after c (map (λ (row : ChunkRow). row.first) rows) ≡ true → row_after before rows c ≡ before
 none_after before [] c e = refl

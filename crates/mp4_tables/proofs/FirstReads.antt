@@ -14,7 +14,6 @@ use Rattle.mp4_boxes.proofs.Plain.{nat_le_yes}
 use Rattle.mp4_tables.specs.format.Repeated.{total}
 use Rattle.mp4_tables.specs.format.Tables.{sample_count}
 use Rattle.mp4_tables.specs.format.TableRules.{TableRule, duration_counts, offset_counts, chunk_order, chunk_counts, description_indexes, places, sync_order, dependency_room, test, is_sync_order}
-use Rattle.mp4_tables.specs.format.FirstFault.{table_rule_tests}
 use Rattle.mp4_tables.specs.words.Rows.{runs_at, numbers_at}
 use Rattle.mp4_tables.specs.words.Leaves.{boxes_of, HasTables, IsFirstOf, RowsRead, tables_in, surroundings_of, SizesKnown, ChunksRead, IsOffsetsLeaf}
 use Rattle.mp4_tables.specs.words.RowTests.{version_tests, row_tests, size_tests, duration_tests, offset_tests, chunk_tests, chunk_row_tests, place_tests, sync_tests, dependency_tests}
@@ -127,9 +126,6 @@ goes true false x y more e = absurd cc
 goes true true x y more e = refl
 
 module _ (l : Limits) (stbl b : Box) (i : IsFirstOf (codes "sdtp") (boxes_of stbl) b) where
-  abbrev own : List (Test Fault)
-  own = naming b (leaf_tests_with sdtp (table_rule_tests (surroundings_of l) (tables_in stbl) (dependency_room ∷ [])) b.payload)
-
   abbrev later : List (Test Fault)
   later = (true, fault_of BadFlags b) ∷ (nat_le (needed sdtp b.payload) (length b.payload), fault_of ShortBox b) ∷ (test dependency_room (surroundings_of l) (tables_in stbl), fault_of ShortBox b) ∷ (true, fault_of BadValue b) ∷ (true, fault_of OutsideData b) ∷ (true, fault_of OffsetTooLarge b) ∷ []
 

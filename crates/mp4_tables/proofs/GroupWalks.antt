@@ -16,7 +16,7 @@ use Rattle.mp4_boxes.specs.format.Layout.{sbgp, sgpd, IsReadable, IsSound}
 use Rattle.mp4_boxes.proofs.Sound.{same_kind}
 use Rattle.mp4_tables.specs.format.TableRules.{GroupsReadable}
 use Rattle.mp4_boxes.specs.declared.fault.Fault.{Fault}
-use Rattle.mp4_tables.specs.words.Leaves.{GroupsSo, GroupPassed, SlotTaken, IsChild, boxes_of, AllOf, tables_in, ChildRead, GroupsRead}
+use Rattle.mp4_tables.specs.words.Leaves.{GroupsSo, GroupPassed, SlotTaken, IsChild, boxes_of, AllOf, tables_in, ChildRead}
 use Rattle.mp4_tables.specs.declared.places.RowsAt.{RowsAt}
 use Rattle.mp4_tables.specs.declared.places.GroupsAt.{GroupsAt}
 use Rattle.mp4_tables.proofs.IndexesLeft.{four}
@@ -157,15 +157,6 @@ passed_next stbl b n at after left later p e t (inr (k, g)) = record {
 -- nothing is told where all have passed
 pub none_left : (stbl : Box) (n : ℕ) (at : GroupsAt) (left : List Box) → GroupsPassed stbl n at left → left ≡ [] → first_failed (groups_tests n [] (tables_in stbl).groups 0 (boxes_of stbl)) ≡ None
 none_left stbl n at left p e = p.first ∙ ap (λ bs. first_failed (groups_tests n [] (tables_in stbl).groups (length (of_kind (codes "sbgp") p.passed)) bs)) e
-
-pub passed_all : (stbl : Box) (n : ℕ) (at : GroupsAt) (left : List Box) → GroupsPassed stbl n at left → left ≡ [] → GroupsRead stbl n at
-passed_all stbl n at left p e =
-    let all : p.passed ≡ boxes_of stbl = sym (p.is ∙ ap (λ bs. p.passed ++ bs) e ∙ append-nil p.passed) in
-    record {
-      so = subst (λ bs. GroupsSo stbl.payload n (groupings_of (of_kind (codes "sbgp") bs)) at) all p.so;
-      groups = subst (AllOf (codes "sbgp") (IsReadable sbgp)) all p.groups;
-      described = subst (AllOf (codes "sgpd") (IsSound sgpd)) all p.described;
-    }
 
 -- ---- rows that were passed
 

@@ -17,15 +17,6 @@ both_pass {F} (t ∷ xs) ys e = by t.0 (both_pass xs ys) e
     by true more e = more e
     by false more e = absurd cc
 
--- where none of either fails, none of both does
-pub pass_both : {F : Type 0} (xs ys : List (Test F)) → first_failed xs ≡ None → first_failed ys ≡ None → first_failed (xs ++ ys) ≡ None
-pass_both [] ys e g = g
-pass_both {F} (t ∷ xs) ys e g = by t.0 (pass_both xs ys) e
-  where
-    by : (v : Bool) → (first_failed xs ≡ None → first_failed ys ≡ None → first_failed (xs ++ ys) ≡ None) → cond v (first_failed xs) (Some t.1) ≡ None → cond v (first_failed (xs ++ ys)) (Some t.1) ≡ None
-    by true more e = more e g
-    by false more e = absurd cc
-
 -- the first to fail of two lists is the first of the one, or of the other behind tests that pass
 pub either_fails : {F : Type 0} (xs ys : List (Test F)) (f : F) → first_failed (xs ++ ys) ≡ Some f → (first_failed xs ≡ Some f) ⊎ ((first_failed xs ≡ None) × (first_failed ys ≡ Some f))
 either_fails [] ys f e = inr (refl, e)

@@ -11,9 +11,6 @@ use Rattle.mp4_tables.specs.words.Timed.{padded, indexes}
 use Rattle.mp4_tables.specs.words.Accepted.{grouped, AreDistinct, AreUsed}
 use Rattle.mp4_tables.proofs.SampleLists.{NotIn, put_one, put_not_in, absent, put_there, put_beside, same_both, maps_length}
 
-abbrev key_of_group : Grouping → GroupKey
-key_of_group g = g.key
-
 -- the map of the k-th sample
 pub put_indexes_at : (key : GroupKey) (is : List ℕ) (maps : List Groups) (k : ℕ) → k < length maps → get_or (put_indexes key is maps) k [] ≡ put_one key (slice_index is k) (get_or maps k [])
 put_indexes_at key [] maps zero h = refl

@@ -1,17 +1,14 @@
 -- The children of an `stbl`: the first of a type, where it lies, and what holds of all of a type.
 use Rattle.std.proofs.Common.{◌≡◌, ℕ, zero, suc, ◌+◌, ◌-◌, ◌≤◌, List, [], ◌∷◌, ◌++◌, length, take, drop, subst, refl, ap, sym, ◌∙◌, arith, Bool, true, false, Some, None, length-take, length-drop, append_assoc}
 use Rattle.std.specs.Prelude.{bytes_eq, nat_eq}
-use Rattle.std.specs.List.{AllByRecursion}
 use Rattle.std.proofs.lemmas.List.{drop-drop}
 use Rattle.std.proofs.lemmas.Bool.Decides.{nat_tests}
 use Rattle.mp4_boxes.specs.format.Box.{Box, header_at, size, sizes, LieEndToEnd, Tiles, box_container, bytes_container, first_boxes}
-use Rattle.mp4_boxes.specs.format.Children.{Holds, count_among, is_among, payload_if}
-use Rattle.mp4_boxes.specs.format.Places.{leaf_of, ruled}
+use Rattle.mp4_boxes.specs.format.Children.{Holds, count_among, payload_if}
 use Rattle.mp4_boxes.specs.declared.rule.Rule.TheVariants.{SampleTable}
 use Rattle.mp4_boxes.proofs.Tiling.{header_is, box_size, sizes-cons}
 use Rattle.mp4_boxes.proofs.Among.{count-append, hit_counts}
 use Rattle.mp4_boxes.proofs.Sound.{same_kind}
-use Rattle.mp4_tables.specs.format.TableRules.{AreReadable, IsReadableAs}
 use Rattle.mp4_tables.specs.words.Leaves.{boxes_of, HasTables, AllOf, IsFirstOf, LiesIn}
 use Rattle.mp4_boxes.proofs.Walking.{length_few, first_then}
 
@@ -146,24 +143,6 @@ count_each a b (c ∷ boxes) e = step (bytes_eq a c.kind) (bytes_eq b c.kind) re
     step false true f g h = rw (f, g) (omega (arith, h))
     step false false f g h = rw (f, g) (omega (arith, h))
 
--- what can be read of each type can be read of all of them
-pub readable_from : (kinds : List (List ℕ)) (boxes : List Box) → AllByRecursion (λ (kind : List ℕ). AllOf kind (IsReadableAs (leaf_of (ruled SampleTable) kind)) boxes) kinds → AreReadable kinds boxes
-readable_from kinds [] h = tt
-readable_from kinds (b ∷ boxes) h = (λ m. one kinds h m, readable_from kinds boxes (tails kinds h))
-  where
-    tails : (kinds : List (List ℕ)) → AllByRecursion (λ (kind : List ℕ). AllOf kind (IsReadableAs (leaf_of (ruled SampleTable) kind)) (b ∷ boxes)) kinds → AllByRecursion (λ (kind : List ℕ). AllOf kind (IsReadableAs (leaf_of (ruled SampleTable) kind)) boxes) kinds
-    tails [] h = tt
-    tails (kind ∷ kinds) h = (h.0.1, tails kinds h.1)
-
-    this : (kind : List ℕ) (kinds : List (List ℕ)) (v : Bool) → bytes_eq kind b.kind ≡ v → AllByRecursion (λ (kind : List ℕ). AllOf kind (IsReadableAs (leaf_of (ruled SampleTable) kind)) (b ∷ boxes)) (kind ∷ kinds)
-        → is_among (kind ∷ kinds) b.kind ≡ true → (is_among kinds b.kind ≡ true → IsReadableAs (leaf_of (ruled SampleTable) b.kind) b.payload) → IsReadableAs (leaf_of (ruled SampleTable) b.kind) b.payload
-    this kind kinds true e h m more = subst (λ k. IsReadableAs (leaf_of (ruled SampleTable) k) b.payload) (sym (same_kind kind b.kind e)) (h.0.0 e)
-    this kind kinds false e h m more = more (rw e at m)
-
-    one : (kinds : List (List ℕ)) → AllByRecursion (λ (kind : List ℕ). AllOf kind (IsReadableAs (leaf_of (ruled SampleTable) kind)) (b ∷ boxes)) kinds → is_among kinds b.kind ≡ true → IsReadableAs (leaf_of (ruled SampleTable) b.kind) b.payload
-    one [] h m = absurd (let q : false ≡ true = m in cc)
-    one (kind ∷ kinds) h m = this kind kinds (bytes_eq kind b.kind) refl h m (one kinds h.1)
-
 -- ---- walking over children
 
 -- some boxes were passed, of which none has the type, and these are left
@@ -171,9 +150,6 @@ pub record NonePassed (kind : List ℕ) (boxes left : List Box) : Type 0 where
   pub before : List Box
   pub is : boxes ≡ before ++ left
   pub none : count_among (kind ∷ []) before ≡ 0
-
-pub none_passed : (kind : List ℕ) (boxes left : List Box) → left ≡ boxes → NonePassed kind boxes left
-none_passed kind boxes left e = record { before = []; is = sym e; none = refl }
 
 pub one_passed : (kind : List ℕ) (boxes left later : List Box) (b : Box) → NonePassed kind boxes left → left ≡ b ∷ later → bytes_eq b.kind kind ≡ false → NonePassed kind boxes later
 one_passed kind boxes left later b p e s = record {
@@ -184,9 +160,6 @@ one_passed kind boxes left later b p e s = record {
   where
     miss_counts : (c : Box) → bytes_eq kind c.kind ≡ false → count_among (kind ∷ []) (c ∷ []) ≡ 0
     miss_counts c f = rw f refl
-
-pub none_found : (kind : List ℕ) (boxes left : List Box) → NonePassed kind boxes left → left ≡ [] → count_among (kind ∷ []) boxes ≡ 0
-none_found kind boxes left p e = omega (arith, p.none, ap (count_among (kind ∷ [])) (p.is ∙ ap (λ bs. p.before ++ bs) e), count-append (kind ∷ []) p.before [])
 
 -- children of the profile, as they were found, are the boxes in front of the payload
 pub has_tables : (b : Box) (boxes : List Box) → Holds SampleTable (box_container b) boxes → HasTables b

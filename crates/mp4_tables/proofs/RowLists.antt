@@ -2,7 +2,6 @@
 use Rattle.std.proofs.Common.{◌≡◌, ℕ, zero, suc, ◌+◌, ◌*◌, ◌<◌, ◌≤◌, List, [], ◌∷◌, length, drop, map, slice_index, refl, ap, sym, ◌∙◌, arith}
 use Rattle.std.specs.Prelude.{◌/◌, ◌%◌}
 use Rattle.std.proofs.lemmas.List.{length-map, length-replicate, drop-drop, get_or-drop, get_or-replicate, drop_all, drop_more}
-use Rattle.byteorder.specs.Endian.{big_from}
 use Rattle.mp4_boxes.specs.format.Bytes.{field, rows, numbers, width_of}
 use Rattle.mp4_tables.specs.format.Tables.{first_number, half_bytes}
 use Rattle.mp4_tables.specs.words.Rows.{run_of, chunk_row_of, runs_at, chunk_rows_at, numbers_at, sizes_in}
@@ -11,15 +10,6 @@ use Rattle.mp4_tables.specs.declared.places.SizeForm.{SizeForm}
 use Rattle.mp4_tables.specs.declared.places.SizeForm.TheVariants as forms
 use Rattle.mp4_tables.proofs.Counts.{rows_length, half_length}
 use Rattle.mp4_boxes.proofs.OfBytes.{field_dropped}
-
--- a number in the bytes from a place on
-from_drop : (a i n : ℕ) (bytes : List ℕ) → big_from i n (drop a bytes) ≡ big_from (a + i) n bytes
-from_drop a i zero bytes = refl
-from_drop a i (suc n) bytes =
-    let e : a + suc i ≡ suc (a + i) = omega arith in
-    let head = get_or-drop a bytes i 0 in
-    let more : big_from (suc i) n (drop a bytes) ≡ big_from (suc (a + i)) n bytes = from_drop a (suc i) n bytes ∙ ap (λ j. big_from j n bytes) e in
-    rw (head, more) refl
 
 -- what is left from row k on is row k and what is left behind it
 pub rows_more : {R : Type 0} (f : List ℕ → R) (widths : List ℕ) (n k : ℕ) (bytes : List ℕ) → k < n

@@ -40,10 +40,6 @@ repeated_sum (run ∷ runs) =
 
 -- ---- the next row and the next size of a sum that stays at its most
 
-pub row_more : (runs : List (ℕ × ℕ)) (k count value now next all : ℕ) → drop k runs ≡ (count, value) ∷ drop (k + 1) runs
-    → next ≡ min (now + count * value) (2 ^ 64 - 1) → min (now + row_sums (drop k runs)) (2 ^ 64 - 1) ≡ all → min (next + row_sums (drop (k + 1) runs)) (2 ^ 64 - 1) ≡ all
-row_more runs k count value now next all e n h = let this = ap row_sums e in omega (arith, this, n, h)
-
 -- no row is left behind the last
 pub rows_all : (payload : List ℕ) (at : RowsAt) (k sum all : ℕ) → at.count ≤ k → sum < 2 ^ 64 → min (sum + row_sums (drop k (runs_at payload at))) (2 ^ 64 - 1) ≡ min all (2 ^ 64 - 1) → sum ≡ min all (2 ^ 64 - 1)
 rows_all payload at k sum all h lt e = let none = ap row_sums (runs_all payload at k h) in omega (arith, none, lt, e)

@@ -4,13 +4,13 @@ use Rattle.std.specs.Prelude.{Bool, IsTrue, Option, None, Some, Result, Ok, Err,
 use Rattle.std.proofs.lemmas.List.{append-nil}
 use Rattle.mp4_boxes.specs.declared.refusal.Refusal.{Refusal}
 use Rattle.mp4_store.specs.declared.store.Store.{Ghosts as Store}
-use Rattle.mp4_store.specs.words.Device.{HasRisen, TakesPrefix}
+use Rattle.mp4_store.specs.words.Device.{TakesPrefix}
 use Rattle.mp4_store.proofs.Known.{IsJoining, TakesPrefix-then, TakesPrefix-whole}
 use Rattle.mp4_content.specs.declared.without.Without.{Without}
 use Rattle.mp4_answers.specs.declared.jobs.Job.{Job}
 use Rattle.mp4_answers.specs.declared.jobs.Job.TheVariants as jobs
 use Rattle.mp4_answers.specs.words.WholePut.{PutsWhole, JobPutsWhole}
-use Rattle.mp4norm.specs.format.Runs.{FitsIn, HasChanged, IsLonger, IsMeasured, IsNoLonger, IsSettled, IsTooLong, RefusesLength, RefusesOpening, RefusesOutlet, Says}
+use Rattle.mp4norm.specs.format.Runs.{FitsIn, HasChanged, IsLonger, IsMeasured, IsNoLonger, IsSettled, IsTooLong, RefusesLength, RefusesOpening, RefusesOutlet}
 
 pub on_any : {T E P : Type 0} (r : Result T E) → P → OnOk r P
 on_any (Ok x) p = p
@@ -78,8 +78,3 @@ put_behind joins a b c xs ys (Err e) p q f = TakesPrefix-then joins a b c xs ys 
 pub put_whole : {Y : Type 0} {takes : Y → Y → List ℕ → Type 0} (joins : IsJoining takes) (a b c : Y) (xs ys : List ℕ) {T E : Type 0} (r : Result T E) → takes a b xs → OnOk r (takes b c ys) → OnOk r (takes a c (xs ++ ys))
 put_whole joins a b c xs ys (Ok x) p q = joins a b c xs ys p q
 put_whole joins a b c xs ys (Err e) p q = tt
-
--- a text was put whole, or a put failed
-pub says : {Y : Type 0} (takes : Y → Y → List ℕ → Type 0) (a b : Y) (text : List ℕ) (before after : ℕ) {T E : Type 0} (r : Result T E) → OnOk r (takes a b text) → OnErr r (HasRisen before after) → Says (takes a b) text before after
-says takes a b text before after (Ok x) p q = inl p
-says takes a b text before after (Err e) p q = inr q

@@ -44,12 +44,6 @@ abbrev pub and_then : {A B F : Type 0} → Result A F → (A → Result B F) →
 and_then (Ok x) next = next x
 and_then (Err f) next = Err f
 
--- each in order
-abbrev pub for_each : {A B F : Type 0} → (A → Result B F) → List A → Result (List B) F
-for_each judged [] = Ok []
-for_each judged (x ∷ xs) =
-    and_then (judged x) (λ y. and_then (for_each judged xs) (λ ys. Ok (y ∷ ys)))
-
 -- a test that names this box
 abbrev pub naming : Box → List (Test Kind) → List (Test Fault)
 naming b [] = []

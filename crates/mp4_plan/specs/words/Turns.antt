@@ -1,5 +1,5 @@
 -- The order in which pieces come, and why it ends.
-use Rattle.std.specs.Prelude.{◌≡◌, ◌<◌, ◌⊎◌, ℕ, ◌+◌, ◌-◌, ◌*◌, ◌==◌, min, Bool, true, if◌then◌else◌, List, [], ◌∷◌, Option, Some, None, length, option_map}
+use Rattle.std.specs.Prelude.{◌≡◌, ◌<◌, ◌⊎◌, ℕ, ◌+◌, ◌-◌, ◌==◌, min, Bool, true, if◌then◌else◌, List, [], ◌∷◌, Option, Some, None, length, option_map}
 use Rattle.std.specs.List.{sum_by}
 use Rattle.mp4_present.specs.words.Movies.{MovieSeen}
 use Rattle.mp4_tables.specs.declared.sample.SampleAt.{SampleAt}
@@ -10,16 +10,6 @@ use Rattle.mp4_plan.specs.words.Ends.{has_ended}
 use Rattle.mp4_plan.specs.declared.ends.End.{End}
 use Rattle.mp4_plan.specs.declared.ends.End.TheVariants.{Sync, Before}
 use Rattle.mp4_plan.specs.declared.schedule.Schedule.{Schedule}
-
--- another fragment follows, and its first sample was met in the first track
-abbrev pub follows_one : ℕ → ℕ → Option ℕ → ℕ
-follows_one tracks track None = 0
-follows_one tracks track (Some cut) = if track == 0 then 0 else tracks + 1
-
--- A bound on how many turns there can be, one for each track of a fragment: each takes a sample, or
--- goes on to the next track.
-unfoldable pub to_come : Schedule → ℕ
-to_come s = s.left * (s.tracks + 2) + (s.tracks - s.track) + follows_one s.tracks s.track s.next
 
 -- one more turn where another fragment begins, if one does
 abbrev pub begins_more : Option ℕ → ℕ
