@@ -1,7 +1,6 @@
 //! A few bytes, spelled one number after the other.
 ghost use Rattle.std.specs.Prelude.{◌≡◌, ◌+◌, ◌≤◌, ◌++◌, [], length};
 ghost use Rattle.byteorder.specs.Endian.{big_bytes};
-ghost use Rattle.mp4_boxes.specs.format.Bytes.{unsigned};
 ghost use Rattle.mp4_plan.specs.words.Spelling.{option_bytes, box_front};
 
 use mp4_boxes::FourCc;
@@ -62,15 +61,6 @@ impl Spelled {
         ensures length { length self.new ≡ length self.old + 4 }
     {
         self.push(&number.to_be_bytes());
-    }
-
-    /// A signed number, in two's complement.
-    pub(crate) fn push_i32(&mut self, number: i32)
-        requires { length self.old + 4 ≤ 128 }
-        ensures is { self.new ≡ self.old ++ big_bytes 4 (unsigned 4 number) }
-        ensures length { length self.new ≡ length self.old + 4 }
-    {
-        self.push_u32(number.cast_unsigned());
     }
 
     pub(crate) fn push_u64(&mut self, number: u64)
