@@ -401,11 +401,11 @@ static int descriptor_with(const wchar_t *name)
 static BOOL put_in_place_of_open(const wchar_t *made, const wchar_t *name)
 {
     BOOL is_put = FALSE;
-    wchar_t *old = malloc((wcslen(name) + 40) * sizeof *old);
+    size_t room = wcslen(name) + 40;
+    wchar_t *old = malloc(room * sizeof *old);
     if (old == NULL)
         return FALSE;
-    wcscpy(old, name);
-    wsprintfW(old + wcslen(old), L".mp4norm-old-%u", (unsigned)GetCurrentProcessId());
+    swprintf(old, room, L"%ls.mp4norm-old-%u", name, (unsigned)GetCurrentProcessId());
     if (MoveFileExW(name, old, 0)) {
         is_put = MoveFileExW(made, name, MOVEFILE_WRITE_THROUGH);
         if (!is_put)
