@@ -10,9 +10,15 @@
 #include <stdio.h>
 #include <stdlib.h>
 #include <string.h>
+#ifdef _WIN32
+#include <io.h>
+#else
 #include <sys/mman.h>
 #include <sys/stat.h>
 #include <unistd.h>
+/* Elsewhere a file of texts is read and written as any other. */
+enum { O_BINARY = 0 };
+#endif
 
 /* The first window; and the most bytes of standard input. */
 enum { ROOM = 1 << 12, LONGEST = 1 << 30 };
@@ -51,6 +57,24 @@ static void fail(const char *what, int status) {
     exit(status);
 }
 
+#ifdef _WIN32
+/* The bytes of a file, or of standard input, of which all are read. */
+static struct bytes open_file(const char *name) {
+    int from = strcmp(name, "-") == 0 ? 0 : open(name, O_RDONLY | O_BINARY), count = from < 0 ? -1 : 1;
+    uint8_t *held = malloc(ROOM);
+    struct bytes file = {held, 0};
+    if (from == 0) _setmode(0, O_BINARY);
+    for (size_t room = ROOM; held != NULL && count > 0;) {
+        count = read(from, held + file.len, (unsigned)(room - file.len));
+        if (count > 0) file.len += (size_t)count;
+        if (file.len == room) held = realloc(held, room *= 2);
+    }
+    file.at = held;
+    if (held == NULL) fail("memory", 2);
+    if (count < 0) fail("store", 3);
+    return file;
+}
+#else
 /* The bytes of a file, or of the file that is standard input. */
 static struct bytes open_file(const char *name) {
     static const uint8_t none[1];
@@ -73,6 +97,7 @@ static struct bytes open_file(const char *name) {
     }
     return file;
 }
+#endif
 
 /* What is said of an answer that is no text: the status. */
 static int said(FILE *to, const struct asked *asked, const struct mp4norm_answer *answer) {
@@ -157,10 +182,10 @@ static int put_text(const struct asked *asked, const struct bytes *of) {
     check_other_calls(asked, of, &answer, len);
     if (answer.status != MP4NORM_DONE && answer.status != MP4NORM_DIFFER) return said(stderr, asked, &answer);
     int is_new = asked->out != NULL && strcmp(asked->out, "-") != 0;
-    int to = is_new ? open(asked->out, O_CREAT | O_EXCL | O_WRONLY, 0666) : 1;
+    int to = is_new ? open(asked->out, O_CREAT | O_EXCL | O_WRONLY | O_BINARY, 0666) : 1;
     if (to < 0) fail("write", 3);
     for (uint64_t at = 0; at < len;) {
-        ssize_t count = write(to, text + at, len - at);
+        ssize_t count = write(to, text + at, (unsigned)(len - at < LONGEST ? len - at : LONGEST));
         if (count <= 0) fail("write", 3);
         at += (uint64_t)count;
     }
@@ -212,6 +237,9 @@ int main(int count, char **given) {
     struct asked asked = {.command = count > 1 ? given[1] : "boxes", .has_header = 0, .limit = 100};
     int is_sum = strcmp(asked.command, "sum") == 0;
     asked.has_header = is_sum;
+#ifdef _WIN32
+    _setmode(1, O_BINARY), _setmode(2, O_BINARY);
+#endif
     for (int at = 2; at < count; at++) {
         char *word = given[at], *next = at + 1 < count ? given[at + 1] : "";
         if (strcmp(word, "--json") == 0) asked.is_json = 1;

@@ -459,7 +459,8 @@ def _library() -> Any:
     named = os.environ.get("MP4NORM_LIBRARY")
     if named is not None or os.environ.get("MP4NORM"):
         return _loaded(named) if named else None
-    for path in _beside("libmp4norm.so.0", "../../../lib", "../../x86_64-linux-gnu"):
+    for path in _beside("libmp4norm.so.0", "../../../lib", "../../x86_64-linux-gnu",
+                        "../../aarch64-linux-gnu"):
         if os.path.isfile(path):
             try:
                 return _loaded(path)

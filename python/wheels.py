@@ -1,9 +1,9 @@
 """Makes a wheel of the module, with the C library inside: what `pip wheel` calls (PEP 517).
 
 A wheel has a package `mp4norm`: the module as `__init__.py`, `py.typed`, by which tools that check types
-know that it has them, and `libmp4norm.so.0`. It has the version that the library answers, and its
-tag says what that asks of a system: Linux on x86-64 with glibc 2.14 or later. The same module and
-library give the same bytes.
+know that it has them, and `libmp4norm.so.0`. It has the version that the library answers, or that is
+given for one of another machine, and its tag says what that asks of a system: Linux on x86-64 with
+glibc 2.14 or later, or on aarch64 with 2.17. The same module and library give the same bytes.
 """
 from __future__ import annotations
 
@@ -17,8 +17,9 @@ from typing import Dict, List, Mapping, Optional
 HERE = os.path.dirname(os.path.realpath(__file__))
 LIBRARY = "libmp4norm.so.0"
 PUBLISHED = os.path.join(HERE, "..", "dist", "x86_64-linux", LIBRARY)
-# Names of glibc of this version or before are all that the library wants.
-TAG = "py3-none-manylinux_2_14_x86_64"
+# By the number of a machine in ELF: names of glibc of this version or before are all that its library wants.
+TAGS = {62: "py3-none-manylinux_2_14_x86_64", 183: "py3-none-manylinux_2_17_aarch64"}
+MACHINE = slice(18, 20)
 METADATA = """Metadata-Version: 2.1
 Name: mp4norm
 Version: {}
@@ -27,10 +28,10 @@ Requires-Python: >=3.8
 Classifier: Operating System :: POSIX :: Linux
 Classifier: Typing :: Typed
 """
-WHEEL = f"""Wheel-Version: 1.0
+WHEEL = """Wheel-Version: 1.0
 Generator: mp4norm
 Root-Is-Purelib: false
-Tag: {TAG}
+Tag: {}
 """
 # The time of every file: zip files know none before 1980.
 TIME = (1980, 1, 1, 0, 0, 0)
@@ -69,19 +70,23 @@ def get_requires_for_build_wheel(settings: Optional[Mapping[str, str]] = None) -
 def build_wheel(folder: str, settings: Optional[Mapping[str, str]] = None,
                 metadata: Optional[str] = None) -> str:
     """Makes the wheel in a folder; its name."""
-    library = (settings or {}).get("library", PUBLISHED)
-    version = _version(library)
+    settings = settings or {}
+    library = settings.get("library", PUBLISHED)
+    version = settings.get("version") or _version(library)
+    tag = TAGS.get(int.from_bytes(_read(library)[MACHINE], "little"))
+    if tag is None:
+        raise SystemExit(f"wheels: {library} is for a machine that no wheel is made for")
     about = f"mp4norm-{version}.dist-info"
     files: Dict[str, bytes] = {
         "mp4norm/__init__.py": _read(HERE, "mp4norm.py"),
         "mp4norm/py.typed": b"",
         f"mp4norm/{LIBRARY}": _read(library),
         f"{about}/METADATA": METADATA.format(version).encode(),
-        f"{about}/WHEEL": WHEEL.encode(),
+        f"{about}/WHEEL": WHEEL.format(tag).encode(),
     }
     listed = "".join(_line(name, content) for name, content in files.items())
     files[f"{about}/RECORD"] = f"{listed}{about}/RECORD,,\n".encode()
-    name = f"mp4norm-{version}-{TAG}.whl"
+    name = f"mp4norm-{version}-{tag}.whl"
     with zipfile.ZipFile(os.path.join(folder, name), "w", zipfile.ZIP_DEFLATED) as wheel:
         for path, content in files.items():
             entry = zipfile.ZipInfo(path, TIME)
